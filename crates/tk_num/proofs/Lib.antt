@@ -1,0 +1,10 @@
+pub mod Best
+pub mod Carry
+pub mod Chosen
+pub mod Digits
+pub mod Fixed
+pub mod FloorRoot
+pub mod Knuth
+pub mod Printed
+pub mod Sines
+pub mod Wrap

@@ -1,0 +1,48 @@
+-- Sums and products of 64 bits that do not wrap.
+use Rattle.std.proofs.Common.{◌≡◌, ◌≢◌, ℕ, ℤ, pos, negsuc, neg_ℤ, ◌+ℤ◌, ◌*ℤ◌, int_div, unsigned_abs, ◌+◌, ◌*◌, ◌^◌, ◌<◌, ◌≤◌, zero, suc, Bool, true, false, eqb, Result, Ok, Err, refl, sym, ap, ◌∙◌, arith, SFits, to_z, of_z}
+use Rattle.std.specs.Int.{w64}
+use Rattle.std.proofs.Math.Nat.{mul-le-mul_left, mul-le-mul_right}
+use Rattle.std.proofs.lemmas.Bool.Decides.{nat_tests}
+use Rattle.std.proofs.lemmas.Int.{to_z-of_z, ints, unsigned_abs-mul, fits_signed_from_abs}
+use Rattle.tk_num.specs.Number.{IsScaled, scaled, quotient}
+
+pub fits : (z : ℤ) → unsigned_abs z < 2 ^ 63 → SFits w64 z
+fits z lt = fits_signed_from_abs w64 z lt
+
+-- a product of two numbers below 2 ^ 31
+pub product_small : (a b : ℤ) → unsigned_abs a ≤ 1073741823 → unsigned_abs b ≤ 1073741823 → unsigned_abs (a *ℤ b) ≤ 1152921502459363329
+product_small a b la lb =
+    let l = mul-le-mul_left (unsigned_abs a) lb in
+    let r = mul-le-mul_right 1073741823 la in
+    omega (arith, unsigned_abs-mul a b, l, r)
+
+pub wrapped_mul : (a b : ℤ) → unsigned_abs a ≤ 1073741823 → unsigned_abs b ≤ 1073741823 → to_z w64 (of_z w64 (to_z w64 (of_z w64 a) *ℤ to_z w64 (of_z w64 b))) ≡ a *ℤ b
+wrapped_mul a b la lb =
+    ap (λ z. to_z w64 (of_z w64 (z *ℤ to_z w64 (of_z w64 b)))) (to_z-of_z w64 a (fits a (omega arith)))
+    ∙ ap (λ z. to_z w64 (of_z w64 (a *ℤ z))) (to_z-of_z w64 b (fits b (omega arith)))
+    ∙ to_z-of_z w64 (a *ℤ b) (let small = product_small a b la lb in fits (a *ℤ b) (omega arith))
+
+sum_small : (a b : ℤ) → unsigned_abs (a +ℤ b) ≤ unsigned_abs a + unsigned_abs b
+sum_small a b = omega (arith, ints)
+
+pub sum_fits : (a b : ℤ) → unsigned_abs a ≤ 1152921502459363329 → unsigned_abs b ≤ 1152921502459363329 → SFits w64 (a +ℤ b)
+sum_fits a b la lb = let s = sum_small a b in fits (a +ℤ b) (omega arith)
+
+-- a sum whose parts are known
+pub wrapped_add : (x y a b : ℤ) → x ≡ a → y ≡ b → unsigned_abs a ≤ 1152921502459363329 → unsigned_abs b ≤ 1152921502459363329 → to_z w64 (of_z w64 (x +ℤ y)) ≡ a +ℤ b
+wrapped_add x y a b e h la lb =
+    ap (λ z. to_z w64 (of_z w64 (z +ℤ y))) e
+    ∙ ap (λ z. to_z w64 (of_z w64 (a +ℤ z))) h
+    ∙ to_z-of_z w64 (a +ℤ b) (sum_fits a b la lb)
+
+-- ---- the quotient
+
+not_zero : (n : ℕ) → n ≢ 0 → eqb n 0 ≡ false
+not_zero n ne = grind (arith, nat_tests)
+
+pub quotient_is : (x y q : ℤ) → unsigned_abs y ≢ 0 → q ≡ int_div (x *ℤ pos 65536) y → scaled q ≡ quotient x y
+quotient_is x y q ne e = ap scaled e ∙ sym (rw (not_zero (unsigned_abs y) ne) refl)
+
+pub abs_of_bits : (z : ℤ) → IsScaled z → of_z w64 z ≢ 0 → unsigned_abs z ≢ 0
+abs_of_bits (pos n) h ne e = ne e
+abs_of_bits (negsuc n) h ne e = absurd (omega arith)

@@ -1,0 +1,13 @@
+use Rattle.std.proofs.Common.{◌≡◌, ◌≤◌, true, take}
+use Rattle.std.specs.List.{list_all}
+use Rattle.std.specs.Char.{is_ascii_digit}
+use Rattle.std.specs.Str.Parse.{digits_value}
+use Rattle.tk_num.proofs.decimal.whole_of.Given as goal
+
+-- the digits so far are digits, and their number is not too great
+abbrev pub invariant-loop-digit : goal.invariant-loop-digit
+invariant-loop-digit l = record {
+  value : l.value ≡ digits_value 10 (take l.digit-index l.digits);
+  digits : list_all is_ascii_digit (take l.digit-index l.digits) ≡ true;
+  most : l.value ≤ 1073741823;
+}

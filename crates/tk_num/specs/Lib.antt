@@ -1,0 +1,4 @@
+pub mod Angle
+pub mod Number
+pub mod Text
+pub mod Unit

@@ -1,0 +1,106 @@
+//! Decimals that are read.
+
+ghost use Rattle.std.specs.Prelude.{◌≡◌, ◌+◌, ◌*◌, ◌/◌, ◌%◌, ◌^◌, ◌<◌, ◌≤◌, true, pos, length, take, IfSome};
+ghost use Rattle.std.specs.List.{list_all, position};
+ghost use Rattle.std.specs.Char.{is_ascii_digit};
+ghost use Rattle.std.specs.Str.Parse.{digits_value};
+ghost use Rattle.std.specs.Option.{SomeIff};
+ghost use Rattle.tk_num.specs.Number.{is_point, fraction_of, whole_digits, part_digits, decimal_parts, IsWhole, IsFraction};
+
+/// The greatest whole part.
+const MOST_WHOLE: u64 = 1_073_741_823;
+
+/// The digits after the point that count.
+const MOST_PLACES: usize = 17;
+
+/// The number that digits write, where it is at most the greatest whole part.
+fn whole_of(digits: &[u8]) -> Option<u64>
+    ensures { SomeIff result ((list_all is_ascii_digit digits.now ≡ true) × (digits_value 10 digits.now ≤ 1073741823)) (digits_value 10 digits.now) }
+{
+    let mut value: u64 = 0;
+    for digit in digits {
+        if !digit.is_ascii_digit() {
+            return None;
+        }
+        value = value * 10 + u64::from(*digit - b'0');
+        if value > MOST_WHOLE {
+            return None;
+        }
+    }
+    Some(value)
+}
+
+/// The number that a few digits write.
+fn value_of(digits: &[u8]) -> u64
+    requires digits { list_all is_ascii_digit digits.now ≡ true }
+    requires few { length digits.now ≤ 17 }
+    ensures value { result ≡ digits_value 10 digits.now }
+    ensures below { result < 10 ^ length digits.now }
+{
+    let mut value: u64 = 0;
+    for digit in digits {
+        value = value * 10 + u64::from(*digit - b'0');
+    }
+    value
+}
+
+/// The 65536ths nearest to a fraction of digits.
+fn fraction(digits: &[u8]) -> u64
+    requires { list_all is_ascii_digit digits.now ≡ true }
+    ensures value { result ≡ fraction_of digits.now }
+    ensures most { result ≤ 65536 }
+{
+    let count = digits.len().min(MOST_PLACES);
+    let value = value_of(&digits[..count]);
+    let unit = 10u128.pow(count as u32);
+    ((131_072 * u128::from(value) + unit) / (2 * unit)) as u64
+}
+
+fn are_digits(text: &[u8]) -> bool
+    ensures { result ≡ list_all is_ascii_digit text.now }
+{
+    text.iter().all(|byte| byte.is_ascii_digit())
+}
+
+/// The place of the first point.
+fn point_of(text: &[u8]) -> Option<usize>
+    ensures { result ≡ position is_point text.now }
+{
+    text.iter().position(|byte| *byte == b'.')
+}
+
+/// The text before the first point, and the text after it.
+fn split_at_point(text: &[u8]) -> (&[u8], &[u8])
+    ensures whole { result.0.now ≡ whole_digits text.now }
+    ensures part { result.1.now ≡ part_digits text.now }
+{
+    match point_of(text) {
+        Some(place) => (&text[..place], &text[place + 1..]),
+        None => (text, &[]),
+    }
+}
+
+/// The whole part and the 65536ths of a decimal.
+///
+/// The fraction is the nearest, ties upward, of its first 17 digits, and one that comes to 65536 is
+/// carried into the whole part. None exactly where the text isn't digits with at most one point and at
+/// least one digit, or where the whole part passes 1,073,741,823.
+pub fn read_decimal(text: &[u8]) -> Option<(i64, i64)>
+    ensures parts { result ≡ decimal_parts text.now }
+    ensures within { IfSome result (λ parts. IsWhole parts.0 × IsFraction parts.1) }
+{
+    let (front, back) = split_at_point(text);
+    if front.is_empty() && back.is_empty() {
+        return None;
+    }
+    let whole = whole_of(front)?;
+    if !are_digits(back) {
+        return None;
+    }
+    let part = fraction(back);
+    let carried = whole + part / 65536;
+    if carried > MOST_WHOLE {
+        return None;
+    }
+    Some((carried as i64, (part % 65536) as i64))
+}

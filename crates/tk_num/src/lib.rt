@@ -1,0 +1,69 @@
+//! Scaled numbers: whole counts of 65536ths of a point, as TeX has them.
+#![tactic(auto)]
+
+ghost use Rattle.std.specs.Prelude.{◌≡◌, ◌≤◌};
+ghost use Rattle.std.specs.Option.{SomeIff};
+ghost use Rattle.tk_num.specs.Number.{IsScaled};
+
+mod angle;
+mod arithmetic;
+mod decimal;
+mod text;
+mod unit;
+
+pub use angle::{cos, sin, tan};
+pub use arithmetic::{add, div, mul, root, sub};
+pub use decimal::read_decimal;
+use std::marker::Model;
+pub use text::{print, print_tex};
+pub use unit::{Unit, with_unit};
+
+/// The greatest absolute value of a `Scaled`.
+const MOST: i64 = 1_073_741_823;
+
+/// A number of 65536ths, at most 1,073,741,823 either way.
+#[derive(Clone, Copy, Debug, Default, PartialEq, Eq, PartialOrd, Ord)]
+pub struct Scaled {
+    sp: i64,
+}
+
+impl Model for Scaled {
+    ghost use Rattle.std.specs.Prelude.{ℤ, ◌≤◌, unsigned_abs};
+
+    ghost Value = { ℤ };
+
+    ghost view = { λ s. s.sp };
+
+    ghost invariant = { λ s. unsigned_abs s.sp ≤ 1073741823 };
+
+    ghost inverse = { λ z. record { sp = z } };
+}
+
+/// Why there is no number to give.
+#[derive(Clone, Copy, Debug, PartialEq, Eq)]
+pub enum NumFault {
+    TooLarge,
+    DivZero,
+    Domain,
+}
+
+impl Scaled {
+    /// The number of `sp` 65536ths; None where it is out of range.
+    pub fn new(sp: i64) -> Option<Scaled>
+        ensures { SomeIff result (IsScaled sp) sp }
+    {
+        if -MOST <= sp && sp <= MOST {
+            Some(Scaled { sp })
+        } else {
+            None
+        }
+    }
+
+    /// Its count of 65536ths.
+    pub fn sp(self) -> i64
+        ensures value { result ≡ self }
+        ensures range { IsScaled result }
+    {
+        self.sp
+    }
+}

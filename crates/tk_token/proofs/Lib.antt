@@ -1,0 +1,11 @@
+pub mod Answering
+pub mod Ascii
+pub mod Cuts
+pub mod Fixpoint
+pub mod Fronts
+pub mod Lines
+pub mod Listed
+pub mod Loop
+pub mod Told
+pub mod Total
+pub mod Unique

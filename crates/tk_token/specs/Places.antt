@@ -1,0 +1,20 @@
+-- Lines and columns.
+use Rattle.std.specs.Prelude.{ℕ, ◌+◌, ◌==◌, Bool, List, length, take, count_by}
+use Rattle.std.specs.List.{after_last}
+use Rattle.std.specs.Str.{chars}
+
+-- a line ends with an LF
+abbrev pub is_line_end : ℕ → Bool
+is_line_end c = c == 10
+
+-- the bytes of its line that stand before a place
+abbrev pub line_before : List ℕ → ℕ → List ℕ
+line_before source at = after_last is_line_end (take at source)
+
+-- a line is one more than the line ends before the place
+abbrev pub line_of : List ℕ → ℕ → ℕ
+line_of source at = 1 + count_by is_line_end (take at source)
+
+-- a column is one more than the characters of the line before the place
+abbrev pub column_of : List ℕ → ℕ → ℕ
+column_of source at = 1 + length (chars (line_before source at))
