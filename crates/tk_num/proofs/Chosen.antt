@@ -14,11 +14,14 @@ use Rattle.tk_num.proofs.Fixed.{both, passes, are_digits, fixed_all, length-fixe
 
 -- ---- what any text with a point says
 
-part_passes : (text : List ℕ) → is_decimal text ≡ true → list_all is_ascii_digit (part_digits text) ≡ true
+pub part_passes : (text : List ℕ) → is_decimal text ≡ true → list_all is_ascii_digit (part_digits text) ≡ true
 part_passes text e = (both _ _ (both (list_all is_ascii_digit (whole_digits text)) _ e).1).0
 
+pub whole_passes : (text : List ℕ) → is_decimal text ≡ true → list_all is_ascii_digit (whole_digits text) ≡ true
+whole_passes text e = (both (list_all is_ascii_digit (whole_digits text)) _ e).0
+
 -- one to five digits never come to a whole
-no_carry : (k d : ℕ) → 1 ≤ k → k ≤ 5 → d < 10 ^ k → nearest_65536th k d < 65536
+pub no_carry : (k d : ℕ) → 1 ≤ k → k ≤ 5 → d < 10 ^ k → nearest_65536th k d < 65536
 no_carry k d low high = by_count (λ n. d < 10 ^ n → nearest_65536th n d < 65536) (λ lt. omega arith) (λ lt. omega arith) (λ lt. omega arith) (λ lt. omega arith) (λ lt. omega arith) k low high
 
 -- a text that reads back has the whole part, and digits that read as the fraction
@@ -154,11 +157,14 @@ size_chosen n lt =
 
 -- ---- the texts with their sign
 
+pub pointed-is : (z : ℤ) → pointed_text z ≡ sign_text z ++ size_text (unsigned_abs z)
+pointed-is z = append_assoc (sign_text z) (decimal (unsigned_abs z / 65536)) (46 ∷ part_text (unsigned_abs z % 65536))
+
 pub is_pointed_text : (z : ℤ) → unsigned_abs z < 2 ^ 64 → IsPointedTextOf z (pointed_text z)
 is_pointed_text z lt = record {
   size = size_text (unsigned_abs z);
   chosen = size_chosen (unsigned_abs z) lt;
-  written = append_assoc (sign_text z) (decimal (unsigned_abs z / 65536)) (46 ∷ part_text (unsigned_abs z % 65536));
+  written = pointed-is z;
 }
 
 one_digit : (f m : ℕ) → f ≢ 0 → m < 10 ^ 1 → nearest_65536th 1 m ≡ f → eqb (48 + m % 10) 48 ≡ false
@@ -184,7 +190,7 @@ without-some n lt ne =
     let lone : is_lone_zero (part_digits (size_text n)) ≡ false = ap is_lone_zero (part-size n lt) ∙ some_digits (n % 65536) _ _ ne (best_of n).reads in
     rw lone refl
 
-text-is : (z : ℤ) → unsigned_abs z < 2 ^ 64 → text_of z ≡ sign_text z ++ without_zero (size_text (unsigned_abs z))
+pub text-is : (z : ℤ) → unsigned_abs z < 2 ^ 64 → text_of z ≡ sign_text z ++ without_zero (size_text (unsigned_abs z))
 text-is z lt = by_test (eqb (unsigned_abs z % 65536) 0) refl
   where
     by_test : (b : Bool) → eqb (unsigned_abs z % 65536) 0 ≡ b → text_of z ≡ sign_text z ++ without_zero (size_text (unsigned_abs z))

@@ -1,3 +1,4 @@
+pub mod Back
 pub mod Best
 pub mod Carry
 pub mod Chosen
@@ -7,4 +8,5 @@ pub mod FloorRoot
 pub mod Knuth
 pub mod Printed
 pub mod Sines
+pub mod Unique
 pub mod Wrap

@@ -95,6 +95,10 @@ pointed_text z = sign_text z ++ decimal (unsigned_abs z / 65536) ++ 46 ∷ part_
 unfoldable pub text_of : ℤ → List ℕ
 text_of z = sign_text z ++ decimal (unsigned_abs z / 65536) ++ (if unsigned_abs z % 65536 == 0 then [] else 46 ∷ part_text (unsigned_abs z % 65536))
 
+-- the text without its sign
+abbrev pub unsigned_text : ℤ → List ℕ
+unsigned_text z = text_of (pos (unsigned_abs z))
+
 -- these are n digits that read as the fraction
 pub record Reads (f n m : ℕ) : Type 0 where
   pub some : 1 ≤ n

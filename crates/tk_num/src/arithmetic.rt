@@ -1,7 +1,7 @@
 //! Sums, products, quotients and roots of scaled numbers.
 
-ghost use Rattle.std.specs.Prelude.{◌≡◌, ◌+ℤ◌, ◌-ℤ◌, ◌*◌, ◌≤◌, int_div, unsigned_abs, IfOk};
-ghost use Rattle.tk_num.specs.Number.{scaled, product, quotient, square_root, IsFloorRoot};
+ghost use Rattle.std.specs.Prelude.{◌≡◌, ℕ, ◌+ℤ◌, ◌-ℤ◌, ◌*◌, ◌≤◌, int_div, unsigned_abs, IfOk};
+ghost use Rattle.tk_num.specs.Number.{scaled, product, quotient, square_root, floor_root, IsFloorRoot};
 
 use crate::{NumFault, Scaled};
 
@@ -63,3 +63,8 @@ pub fn root(x: Scaled) -> Result<Scaled, NumFault>
     }
     in_range((x.sp() as u64 * 65536).isqrt() as i64)
 }
+
+/// The root that is cut downward is the greatest whole number whose square is at most the number.
+pub fn root_is_floor()
+    ensures { (n : ℕ) → IsFloorRoot n (floor_root n) }
+{}

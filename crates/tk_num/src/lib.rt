@@ -12,10 +12,10 @@ mod text;
 mod unit;
 
 pub use angle::{cos, sin, tan};
-pub use arithmetic::{add, div, mul, root, sub};
+pub use arithmetic::{add, div, mul, root, root_is_floor, sub};
 pub use decimal::read_decimal;
 use std::marker::Model;
-pub use text::{print, print_tex};
+pub use text::{print, print_tex, text_is_unique, text_reads_back};
 pub use unit::{Unit, with_unit};
 
 /// The greatest absolute value of a `Scaled`.

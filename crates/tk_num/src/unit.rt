@@ -75,7 +75,13 @@ fn length_of(whole: i64, frac: i64, unit: Unit, em: Scaled, ex: Scaled) -> i64
 ///
 /// `whole` is from 0 to 1,073,741,823 and `frac` from 0 to 65535, as `read_decimal` gives them. In
 /// scaled points `frac` counts for nothing. `em` and `ex` are the units of the font.
-pub fn with_unit(whole: i64, frac: i64, unit: Unit, em: Scaled, ex: Scaled) -> Result<Scaled, NumFault>
+pub fn with_unit(
+    whole: i64,
+    frac: i64,
+    unit: Unit,
+    em: Scaled,
+    ex: Scaled,
+) -> Result<Scaled, NumFault>
     requires whole { IsWhole whole }
     requires frac { IsFraction frac }
     ensures { result ≡ scaled (length_in unit (65536 * unsigned_abs whole + unsigned_abs frac) em ex) }

@@ -1,0 +1,9 @@
+pub mod Causes
+pub mod Shelf
+pub mod Sink
+pub mod Reading
+pub mod Held
+pub mod Desk
+pub mod Stock
+pub mod StockView
+pub mod SureShelf

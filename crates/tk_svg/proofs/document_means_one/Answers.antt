@@ -1,0 +1,5 @@
+use Rattle.tk_svg.proofs.Unique.{drawing_same}
+use Rattle.tk_svg.proofs.document_means_one.Goals as goal
+
+pub returns : goal.returns
+returns c = drawing_same

@@ -1,0 +1,49 @@
+-- Which drawings an SVG document can stand for.
+use Rattle.std.specs.Prelude.{ℕ, ◌<◌, ◌≤◌, Bool, IsTrue, not, ◌||◌, ◌&&◌, ◌==◌, List, ◌∷◌, length, Option, Some, None, ℤ, pos, ◌≤ℤ◌, ◌-ℤ◌, unsigned_abs}
+use Rattle.std.specs.List.{list_all, AllByRecursion}
+use Rattle.tk_item.specs.declared.Seg.{Seg}
+use Rattle.tk_item.specs.declared.Seg.TheVariants.{Move}
+use Rattle.tk_item.specs.declared.Stroke.{Stroke}
+use Rattle.tk_item.specs.declared.Item.{Item}
+use Rattle.tk_item.specs.declared.Item.TheVariants.{Path, Label}
+use Rattle.tk_item.specs.declared.Drawing.{Drawing}
+use Rattle.tk_svg.specs.Scan.{is_xml_char}
+use Rattle.tk_svg.specs.Document.{IsFamily}
+
+-- a path has pieces, and begins with a move
+abbrev pub BeginsWithMove : List Seg → Type 0
+BeginsWithMove (Move p ∷ segs) = Unit {0}
+BeginsWithMove _ = ⊥
+
+-- a path that is drawn has a width that is not negative, and a miter limit of at least one
+abbrev pub FitsStroke : Option Stroke → Type 0
+FitsStroke None = Unit {0}
+FitsStroke (Some stroke) = (pos 0 ≤ℤ stroke.width) × (pos 65536 ≤ℤ stroke.miter)
+
+-- a character of a label: one that XML allows, but tab, line feed and carriage return
+abbrev pub is_label_char : ℕ → Bool
+is_label_char c = is_xml_char c && not (c == 9 || (c == 10 || c == 13))
+
+-- a label's text is not empty
+pub record FitsText (text : List ℕ) : Type 0 where
+  pub some : 0 < length text
+  pub each : IsTrue (list_all is_label_char text)
+
+abbrev pub FitsItem : Item → Type 0
+FitsItem (Path segs fill stroke) = BeginsWithMove segs × FitsStroke stroke
+FitsItem (Label label) = FitsText label.text
+
+-- a number that a view box can have
+abbrev pub FitsBox : ℤ → Type 0
+FitsBox z = unsigned_abs z ≤ 4294967295
+
+-- a drawing that fits the form
+pub record Fits (d : Drawing) : Type 0 where
+  pub sides : d.frame.left ≤ℤ d.frame.right
+  pub heights : d.frame.bottom ≤ℤ d.frame.top
+  pub left : FitsBox d.frame.left
+  pub top : FitsBox d.frame.top
+  pub width : FitsBox (d.frame.right -ℤ d.frame.left)
+  pub height : FitsBox (d.frame.top -ℤ d.frame.bottom)
+  pub family : IsFamily d.family
+  pub items : AllByRecursion FitsItem d.items

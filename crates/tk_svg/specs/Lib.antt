@@ -1,0 +1,5 @@
+pub mod Document
+pub mod Fitting
+pub mod Paint
+pub mod PathData
+pub mod Scan

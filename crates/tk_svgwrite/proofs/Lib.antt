@@ -1,0 +1,6 @@
+pub mod Document
+pub mod Numbers
+pub mod Paint
+pub mod PathData
+pub mod Settings
+pub mod Writing

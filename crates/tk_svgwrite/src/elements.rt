@@ -1,0 +1,200 @@
+//! Elements, one a line. Each call writes at the end of `out`, or runs out of memory.
+
+ghost use Rattle.std.specs.Prelude.{◌≡◌, ◌∷◌, ◌++◌, [], OnOk, Some, codes, neg_ℤ};
+ghost use Rattle.std.specs.List.{AllByRecursion};
+ghost use Rattle.tk_num.specs.Number.{IsScaled};
+ghost use Rattle.tk_num.specs.Text.{text_of};
+ghost use Rattle.tk_item.specs.declared.Item.TheVariants.{Path};
+ghost use Rattle.tk_svg.specs.Document.{IsFamily};
+ghost use Rattle.tk_svg.specs.Fitting.{Fits, FitsBox};
+ghost use Rattle.tk_svgwrite.specs.Plain.{attribute_text, attributes_text, differing, fill_settings, stroke_settings, item_text, points_text, numbers_text, box_text, width_of, height_of, svg_text};
+ghost use Rattle.tk_svgwrite.specs.Ranges.{FillInRange, StrokeInRange, StrokeNumbersInRange, ItemInRange};
+
+use crate::attributes::{
+    close_attribute, open_attribute, put_attribute, put_dashes, put_number_setting, put_setting,
+};
+use crate::values::{cap_word, join_word, put_data, put_number, put_pair, put_scaled, rgb_digits, rule_word};
+use std::alloc::AllocError;
+use tk_item::{Drawing, Fill, Frame, Item, Seg, Stroke, Text};
+use tk_num::Scaled;
+
+/// Writes the element of an item. Labels are not written.
+#[tactic(auto, unfolding(crate::specs::Plain::item_text))]
+pub fn put_item(out: &mut Vec<u8>, item: &Item) -> Result<(), AllocError>
+    ensures text { OnOk result (out.new.items ≡ out.old.items ++ item_text item.now) }
+    ensures range { OnOk result (ItemInRange item.now) }
+{
+    match item {
+        Item::Path(segs, fill, stroke) => put_path(out, segs.as_slice(), *fill, stroke),
+        Item::Label(_) => Ok(()),
+    }
+}
+
+fn put_path(
+    out: &mut Vec<u8>,
+    segs: &[Seg],
+    fill: Option<Fill>,
+    stroke: &Option<Stroke>,
+) -> Result<(), AllocError>
+    ensures text { OnOk result (out.new.items ≡ out.old.items ++ item_text (Path segs.now fill stroke.now)) }
+    ensures range { OnOk result (ItemInRange (Path segs.now fill stroke.now)) }
+{
+    out.extend_from_slice(b"<path")?;
+    open_attribute(out, b"d")?;
+    put_data(out, segs)?;
+    close_attribute(out)?;
+    put_fill(out, fill)?;
+    put_stroke(out, stroke)?;
+    out.extend_from_slice(b"/>\n")?;
+    Ok(())
+}
+
+/// Writes how a path is filled.
+fn put_fill(out: &mut Vec<u8>, fill: Option<Fill>) -> Result<(), AllocError>
+    ensures text { OnOk result (out.new.items ≡ out.old.items ++ attributes_text (differing (fill_settings fill))) }
+    ensures range { OnOk result (FillInRange fill) }
+{
+    match fill {
+        None => put_setting(out, b"fill", b"#000000", b"none"),
+        Some(fill) => {
+            put_setting(out, b"fill", b"#000000", &rgb_digits(fill.rgb))?;
+            put_setting(out, b"fill-rule", b"nonzero", rule_word(fill.rule))
+        }
+    }
+}
+
+/// Writes how a path is drawn.
+#[tactic(auto, unfolding(crate::specs::Plain::differing))]
+fn put_stroke(out: &mut Vec<u8>, stroke: &Option<Stroke>) -> Result<(), AllocError>
+    ensures text { OnOk result (out.new.items ≡ out.old.items ++ attributes_text (differing (stroke_settings stroke.now))) }
+    ensures range { OnOk result (StrokeInRange stroke.now) }
+{
+    match stroke {
+        None => Ok(()),
+        Some(stroke) => put_pen(out, stroke),
+    }
+}
+
+fn put_pen(out: &mut Vec<u8>, stroke: &Stroke) -> Result<(), AllocError>
+    ensures text { OnOk result (out.new.items ≡ out.old.items ++ attributes_text (differing (stroke_settings (Some stroke.now)))) }
+    ensures range { OnOk result (StrokeNumbersInRange stroke.now) }
+{
+    put_setting(out, b"stroke", b"none", &rgb_digits(stroke.rgb))?;
+    put_number_setting(out, b"stroke-width", b"1", stroke.width)?;
+    put_setting(out, b"stroke-linecap", b"butt", cap_word(stroke.cap))?;
+    put_setting(out, b"stroke-linejoin", b"miter", join_word(stroke.join))?;
+    put_number_setting(out, b"stroke-miterlimit", b"4", stroke.miter)?;
+    put_dashes(out, &stroke.dash)?;
+    put_number_setting(out, b"stroke-dashoffset", b"0", stroke.phase)
+}
+
+/// Writes the start tag of the outermost element.
+pub fn put_svg(out: &mut Vec<u8>, drawing: &Drawing) -> Result<(), AllocError>
+    requires { Fits drawing.now }
+    ensures text { OnOk result (out.new.items ≡ out.old.items ++ svg_text drawing.now) }
+    ensures range { OnOk result (IsScaled drawing.now.size) }
+{
+    let frame = drawing.frame;
+    out.extend_from_slice(b"<svg")?;
+    put_attribute(out, b"xmlns", b"http://www.w3.org/2000/svg")?;
+    put_attribute(out, b"version", b"1.1")?;
+    put_width(out, frame)?;
+    put_height(out, frame)?;
+    put_view_box(out, frame)?;
+    put_family(out, &drawing.family)?;
+    put_size(out, drawing.size)?;
+    out.extend_from_slice(b">\n")?;
+    Ok(())
+}
+
+fn put_width(out: &mut Vec<u8>, frame: Frame) -> Result<(), AllocError>
+    requires { FitsBox (width_of frame) }
+    ensures { OnOk result (out.new.items ≡ out.old.items ++ attribute_text (codes "width", points_text (width_of frame))) }
+{
+    put_points(out, b"width", frame.right - frame.left)
+}
+
+fn put_height(out: &mut Vec<u8>, frame: Frame) -> Result<(), AllocError>
+    requires { FitsBox (height_of frame) }
+    ensures { OnOk result (out.new.items ≡ out.old.items ++ attribute_text (codes "height", points_text (height_of frame))) }
+{
+    put_points(out, b"height", frame.top - frame.bottom)
+}
+
+/// Writes an attribute that is a length in SVG's points, of which 800 are as long as 803 of TeX's.
+fn put_points(out: &mut Vec<u8>, name: &[u8], length: i64) -> Result<(), AllocError>
+    requires { FitsBox length }
+    ensures { OnOk result (out.new.items ≡ out.old.items ++ attribute_text (name.now, points_text length)) }
+{
+    open_attribute(out, name)?;
+    put_number(out, length * 800 / 803)?;
+    out.extend_from_slice(b"pt")?;
+    close_attribute(out)
+}
+
+/// Writes the view box, whose y is downward.
+fn put_view_box(out: &mut Vec<u8>, frame: Frame) -> Result<(), AllocError>
+    requires top { FitsBox frame.top }
+    requires width { FitsBox (width_of frame) }
+    requires height { FitsBox (height_of frame) }
+    ensures { OnOk result (out.new.items ≡ out.old.items ++ attribute_text (codes "viewBox", box_text frame)) }
+{
+    open_attribute(out, b"viewBox")?;
+    put_box(out, frame)?;
+    close_attribute(out)
+}
+
+/// Writes its left side, its top, its width and its height.
+fn put_box(out: &mut Vec<u8>, frame: Frame) -> Result<(), AllocError>
+    requires top { FitsBox frame.top }
+    requires width { FitsBox (width_of frame) }
+    requires height { FitsBox (height_of frame) }
+    ensures { OnOk result (out.new.items ≡ out.old.items ++ box_text frame) }
+{
+    put_box_corner(out, frame)?;
+    out.push(b' ')?;
+    put_box_width(out, frame)?;
+    out.push(b' ')?;
+    put_box_height(out, frame)
+}
+
+fn put_box_corner(out: &mut Vec<u8>, frame: Frame) -> Result<(), AllocError>
+    requires { FitsBox frame.top }
+    ensures { OnOk result (out.new.items ≡ out.old.items ++ numbers_text (frame.left ∷ neg_ℤ frame.top ∷ [])) }
+{
+    put_pair(out, frame.left, -frame.top)
+}
+
+fn put_box_width(out: &mut Vec<u8>, frame: Frame) -> Result<(), AllocError>
+    requires { FitsBox (width_of frame) }
+    ensures { OnOk result (out.new.items ≡ out.old.items ++ text_of (width_of frame)) }
+{
+    put_number(out, frame.right - frame.left)
+}
+
+fn put_box_height(out: &mut Vec<u8>, frame: Frame) -> Result<(), AllocError>
+    requires { FitsBox (height_of frame) }
+    ensures { OnOk result (out.new.items ≡ out.old.items ++ text_of (height_of frame)) }
+{
+    put_number(out, frame.top - frame.bottom)
+}
+
+fn put_family(out: &mut Vec<u8>, family: &Text) -> Result<(), AllocError>
+    requires { IsFamily family.now }
+    ensures { OnOk result (out.new.items ≡ out.old.items ++ attribute_text (codes "font-family", family.now)) }
+{
+    open_attribute(out, b"font-family")?;
+    for letter in family.as_slice() {
+        out.push(*letter as u8)?;
+    }
+    close_attribute(out)
+}
+
+fn put_size(out: &mut Vec<u8>, size: Scaled) -> Result<(), AllocError>
+    ensures text { OnOk result (out.new.items ≡ out.old.items ++ attribute_text (codes "font-size", text_of size)) }
+    ensures range { OnOk result (IsScaled size) }
+{
+    open_attribute(out, b"font-size")?;
+    put_scaled(out, size)?;
+    close_attribute(out)
+}

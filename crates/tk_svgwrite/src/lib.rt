@@ -1,0 +1,33 @@
+//! Writes SVG documents.
+#![tactic(auto)]
+
+ghost use Rattle.std.specs.Prelude.{◌≡◌, IfOk};
+ghost use Rattle.std.specs.List.{AllByRecursion};
+ghost use Rattle.tk_svg.specs.Document.{IsDocument};
+ghost use Rattle.tk_svg.specs.Fitting.{Fits};
+ghost use Rattle.tk_svgwrite.specs.Plain.{document_text, IsPathItem};
+
+mod attributes;
+mod elements;
+mod values;
+
+use elements::{put_item, put_svg};
+use std::alloc::{AllocError, Global};
+use tk_item::Drawing;
+
+/// Writes the SVG document of a drawing that fits the form. Labels are not written.
+pub fn write_svg(alloc: Global, drawing: &Drawing) -> Result<Vec<u8>, AllocError>
+    requires fits { Fits drawing.now }
+    requires paths { AllByRecursion IsPathItem drawing.now.items }
+    ensures text { IfOk result (λ v. v.items ≡ document_text drawing.now) }
+    ensures means { IfOk result (λ v. IsDocument v.items drawing.now) }
+{
+    let mut out = Vec::new(alloc);
+    out.extend_from_slice(b"<?xml version=\"1.0\" encoding=\"UTF-8\"?>\n")?;
+    put_svg(&mut out, drawing)?;
+    for item in drawing.items.as_slice() {
+        put_item(&mut out, item)?;
+    }
+    out.extend_from_slice(b"</svg>\n")?;
+    Ok(out)
+}

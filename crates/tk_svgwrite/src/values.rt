@@ -1,0 +1,161 @@
+//! The values of attributes. Each call writes at the end of `out`, or runs out of memory.
+
+ghost use Rattle.std.specs.Prelude.{◌≡◌, ℕ, ◌+◌, ◌/◌, ◌%◌, ◌<◌, ◌∷◌, ◌++◌, [], OnOk, codes};
+ghost use Rattle.std.specs.List.{AllByRecursion};
+ghost use Rattle.tk_num.specs.Number.{IsScaled};
+ghost use Rattle.tk_num.specs.Text.{text_of};
+ghost use Rattle.tk_svgwrite.specs.Plain.{numbers_text, numbers_of_point, piece_text, data_text, hex_glyph, rgb_text, rule_text, cap_text, join_text};
+ghost use Rattle.tk_svgwrite.specs.Ranges.{PointInRange, PieceInRange, RgbInRange};
+
+use std::alloc::AllocError;
+use tk_item::{Cap, Join, Point, Rgb, Rule, Seg};
+use tk_num::{Scaled, print};
+
+/// Writes a number.
+pub fn put_number(out: &mut Vec<u8>, sp: i64) -> Result<(), AllocError>
+    ensures { OnOk result (out.new.items ≡ out.old.items ++ text_of sp) }
+{
+    out.extend_from_slice(print(sp).as_str().as_bytes())
+}
+
+/// The same of a scaled number.
+pub fn put_scaled(out: &mut Vec<u8>, number: Scaled) -> Result<(), AllocError>
+    ensures text { OnOk result (out.new.items ≡ out.old.items ++ text_of number) }
+    ensures range { OnOk result (IsScaled number) }
+{
+    put_number(out, number.sp())
+}
+
+/// Writes numbers with one space between any two.
+pub fn put_numbers(out: &mut Vec<u8>, first: Scaled, rest: &[Scaled]) -> Result<(), AllocError>
+    ensures text { OnOk result (out.new.items ≡ out.old.items ++ numbers_text (first ∷ rest.now)) }
+    ensures range { OnOk result (AllByRecursion IsScaled (first ∷ rest.now)) }
+{
+    put_scaled(out, first)?;
+    for number in rest {
+        put_next(out, *number)?;
+    }
+    Ok(())
+}
+
+/// Writes a number behind a space.
+fn put_next(out: &mut Vec<u8>, number: Scaled) -> Result<(), AllocError>
+    ensures text { OnOk result (out.new.items ≡ out.old.items ++ (codes " " ++ text_of number)) }
+    ensures range { OnOk result (IsScaled number) }
+{
+    out.push(b' ')?;
+    put_scaled(out, number)
+}
+
+/// Writes two numbers with a space between them.
+pub fn put_pair(out: &mut Vec<u8>, x: i64, y: i64) -> Result<(), AllocError>
+    ensures { OnOk result (out.new.items ≡ out.old.items ++ numbers_text (x ∷ y ∷ [])) }
+{
+    put_number(out, x)?;
+    out.push(b' ')?;
+    put_number(out, y)
+}
+
+/// Writes the data of a path.
+pub fn put_data(out: &mut Vec<u8>, segs: &[Seg]) -> Result<(), AllocError>
+    ensures text { OnOk result (out.new.items ≡ out.old.items ++ data_text segs.now) }
+    ensures range { OnOk result (AllByRecursion PieceInRange segs.now) }
+{
+    for seg in segs {
+        put_piece(out, *seg)?;
+    }
+    Ok(())
+}
+
+/// Writes the letter of a piece and its numbers.
+fn put_piece(out: &mut Vec<u8>, seg: Seg) -> Result<(), AllocError>
+    ensures text { OnOk result (out.new.items ≡ out.old.items ++ piece_text seg) }
+    ensures range { OnOk result (PieceInRange seg) }
+{
+    match seg {
+        Seg::Move(p) => {
+            out.push(b'M')?;
+            put_point(out, p)
+        }
+        Seg::Line(p) => {
+            out.push(b'L')?;
+            put_point(out, p)
+        }
+        Seg::Curve(p, q, r) => {
+            out.push(b'C')?;
+            put_point(out, p)?;
+            out.push(b' ')?;
+            put_point(out, q)?;
+            out.push(b' ')?;
+            put_point(out, r)
+        }
+        Seg::Close => {
+            out.push(b'Z')?;
+            Ok(())
+        }
+    }
+}
+
+/// Writes the numbers of a point, whose y is upward and is written downward.
+fn put_point(out: &mut Vec<u8>, p: Point) -> Result<(), AllocError>
+    ensures text { OnOk result (out.new.items ≡ out.old.items ++ numbers_text (numbers_of_point p)) }
+    ensures range { OnOk result (PointInRange p) }
+{
+    put_pair(out, p.x.sp(), -p.y.sp())
+}
+
+/// A colour as `#` and six digits.
+pub fn rgb_digits(rgb: Rgb) -> [u8; 7]
+    ensures text { result ≡ rgb_text rgb }
+    ensures range { RgbInRange rgb }
+{
+    [
+        b'#',
+        hex_digit(rgb.r / 16),
+        hex_digit(rgb.r % 16),
+        hex_digit(rgb.g / 16),
+        hex_digit(rgb.g % 16),
+        hex_digit(rgb.b / 16),
+        hex_digit(rgb.b % 16),
+    ]
+}
+
+fn hex_digit(digit: u8) -> u8
+    requires { digit < 16 }
+    ensures { result ≡ hex_glyph digit }
+{
+    if digit < 10 {
+        b'0' + digit
+    } else {
+        b'A' - 10 + digit
+    }
+}
+
+pub fn rule_word(rule: Rule) -> &'static [u8]
+    ensures { result.now ≡ rule_text rule }
+{
+    match rule {
+        Rule::NonZero => b"nonzero",
+        Rule::EvenOdd => b"evenodd",
+    }
+}
+
+pub fn cap_word(cap: Cap) -> &'static [u8]
+    ensures { result.now ≡ cap_text cap }
+{
+    match cap {
+        Cap::Butt => b"butt",
+        Cap::Round => b"round",
+        Cap::Square => b"square",
+    }
+}
+
+pub fn join_word(join: Join) -> &'static [u8]
+    ensures { result.now ≡ join_text join }
+{
+    match join {
+        Join::Miter => b"miter",
+        Join::Round => b"round",
+        Join::Bevel => b"bevel",
+    }
+}
