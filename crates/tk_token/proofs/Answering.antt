@@ -1,10 +1,10 @@
 -- From what a callee gives to what its caller gives.
-use Rattle.std.proofs.Common.{◌≡◌, Result, Ok, Err, sym, ap, subst}
-use Rattle.std.specs.Prelude.{IfOk}
-use Rattle.tk_token.specs.declared.Fault.{Fault}
+use Rattle.std.proofs.Common.{◌≡◌, Ok, Err, sym, ap, subst}
+use Rattle.std.specs.Prelude.{ℕ, Option, Some, None, IfOk, IfSome, refl}
+use Rattle.tk_token.specs.declared.Code.{Code}
 use Rattle.tk_token.specs.declared.Refusal.{Refusal}
 use Rattle.tk_token.specs.declared.Refusal.TheVariants.{OutOfMemory, Fault as Refused}
-use Rattle.tk_token.specs.Answers.{Answer, ◌>>=◌}
+use Rattle.tk_token.specs.Answers.{Answer, ◌>>=◌, or_fault}
 use Rattle.tk_token.specs.Refusals.{Fails}
 
 -- a fault is passed on
@@ -23,3 +23,18 @@ then_is m f x is = ap (λ (m : Answer _). m >>= f) is
 -- what holds of a value holds of the value that is known
 pub known_of : {A : Type 0} (P : A → Type 0) (m : Answer A) (x : A) → m ≡ Ok x → IfOk m P → P x
 known_of P m x is h = subst (λ (m : Answer _). IfOk m P) is h
+
+-- a fact of the last value of two answers, one after the other
+pub then_holds : {A B : Type 0} (P : A → Type 0) (Q : B → Type 0) (m : Answer A) (f : A → Answer B) → IfOk m P → ((x : A) → P x → IfOk (f x) Q) → IfOk (m >>= f) Q
+then_holds P Q (Ok x) f h k = k x h
+then_holds P Q (Err e) f h k = tt
+
+-- answers that go on alike are alike
+pub then_alike : {A B : Type 0} (P : A → Type 0) (m : Answer A) (f g : A → Answer B) → IfOk m P → ((x : A) → P x → f x ≡ g x) → (m >>= f) ≡ (m >>= g)
+then_alike P (Ok x) f g h k = k x h
+then_alike P (Err e) f g h k = refl
+
+-- what holds of a value that is there holds of the answer
+pub or_fault_holds : {A : Type 0} (P : A → Type 0) (o : Option A) (code : Code) (at : ℕ) → IfSome o P → IfOk (or_fault o code at) P
+or_fault_holds P None code at h = tt
+or_fault_holds P (Some x) code at h = h

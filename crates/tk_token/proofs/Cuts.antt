@@ -1,12 +1,12 @@
 -- The pieces in front.
-use Rattle.std.proofs.Common.{◌≡◌, ◌≢◌, ℕ, zero, suc, ◌+◌, ◌-◌, ◌<◌, ◌≤◌, Bool, true, false, List, [], ◌∷◌, ◌++◌, length, take, drop, Option, Some, refl, sym, ap, subst, ◌∙◌, arith, one-add, not}
+use Rattle.std.proofs.Common.{◌≡◌, ◌≢◌, ℕ, suc, ◌+◌, ◌-◌, true, false, List, [], ◌∷◌, length, take, drop, Option, Some, refl, sym, ap, subst, ◌∙◌, arith, one-add, not}
 use Rattle.std.proofs.Math.Seq.{drop-drop}
 use Rattle.std.proofs.lemmas.List.{length-drop}
 use Rattle.std.specs.List.{prefix_len}
 use Rattle.std.specs.Prelude.{unwrap_or}
 use Rattle.std.proofs.lemmas.List.Sums.{prefix_len-le-length}
-use Rattle.tk_token.specs.Token.{Sign, A_char, A_word, A_symbol, A_space, Token}
-use Rattle.tk_token.specs.Cutting.{is_blank, is_letter, letters_of, after_letters, after_blanks, single, Tokens, gap, word, control_space, symbol, other, begins_word_or_symbol}
+use Rattle.tk_token.specs.Token.{Sign, A_word, A_symbol, A_space}
+use Rattle.tk_token.specs.Cutting.{is_blank, is_letter, letters_of, after_letters, after_blanks, single, Tokens, gap, word, control_space, symbol, other}
 use Rattle.tk_token.specs.Pieces.{CutsOne}
 
 two-add : (n : ℕ) → 2 + n ≡ suc (suc n)
@@ -75,3 +75,5 @@ word_cut_at tail front back found k n (c, cs, is, l) k_is front_is back_is len n
 -- a single character
 pub single_cut : (c : ℕ) (cs : List ℕ) (sign : Sign) → is_blank c ≡ false → c ≢ 92 → sign ≡ single c → CutsOne (c ∷ cs) sign 1
 single_cut c cs sign b ne is = subst (λ (s : Sign). CutsOne (c ∷ cs) s 1) (sym is) (other_cut c cs b ne)
+
+pub ruleset cuts = (gap_cut, single_cut, end_cut_at, control_space_cut, symbol_cut)

@@ -1,5 +1,5 @@
 -- The words of a set of texts.
-use Rattle.std.proofs.Common.{◌≡◌, ℕ, zero, suc, ◌<◌, Bool, true, false, ◌||◌, List, [], ◌∷◌, ◌++◌, length, map, Option, Some, None, refl, sym, ap, subst, ◌∙◌, arith, get_or, ltb}
+use Rattle.std.proofs.Common.{◌≡◌, ℕ, zero, suc, Bool, true, false, ◌||◌, List, [], ◌∷◌, ◌++◌, length, map, Some, refl, sym, ap, subst, ◌∙◌, arith, get_or, ltb}
 use Rattle.std.specs.Bool.{if◌then◌else◌}
 use Rattle.std.specs.List.{list_any, slice_get, position, AllByRecursion, IsDistinct}
 use Rattle.std.specs.Option.{option_map}
@@ -91,3 +91,5 @@ with_word_extends words word = by_test (has_word words word)
     by_test : (b : Bool) → Extends words (if b then words else words ++ word ∷ [])
     by_test true = ([], sym (append-nil words))
     by_test false = (word ∷ [], refl)
+
+pub ruleset listed = (found_word, new_word_is)

@@ -1,12 +1,12 @@
 -- What the tokens of bytes are like.
-use Rattle.std.proofs.Common.{◌≡◌, ℕ, zero, suc, ◌-◌, ◌<◌, ◌≤◌, Bool, true, false, List, [], ◌∷◌, length, drop, map, refl, arith, length-drop}
+use Rattle.std.proofs.Common.{◌≡◌, ℕ, zero, suc, ◌-◌, ◌<◌, ◌≤◌, Bool, true, false, List, [], ◌∷◌, length, drop, map, arith, length-drop}
 use Rattle.std.specs.Bool.{if◌then◌else◌}
 use Rattle.std.specs.List.{All, AllByRecursion, prefix_len}
 use Rattle.tk_token.specs.declared.Kind.{Kind}
 use Rattle.tk_token.specs.declared.Kind.TheVariants.{Char, Word, Symbol, Open, Close, Param, Arg, Space}
 use Rattle.tk_token.specs.declared.Tok.{Tok}
-use Rattle.tk_token.specs.Token.{Sign, A_char, A_word, A_symbol, Opens, Closes, A_param, An_arg, A_space, Token, sign_of, token_of, IsNoArg}
-use Rattle.tk_token.specs.Cutting.{is_blank, is_letter, single, after_blanks, after_letters, Tokens, ends, gap, word, control_space, symbol, other}
+use Rattle.tk_token.specs.Token.{Sign, A_char, Opens, Closes, A_param, An_arg, Token, sign_of, token_of, IsNoArg}
+use Rattle.tk_token.specs.Cutting.{is_blank, is_letter, after_blanks, after_letters, Tokens, ends, gap, word, control_space, symbol, other}
 
 pub shorter : (k : ℕ) (bytes : List ℕ) → length (drop k bytes) ≤ length bytes
 shorter k bytes = let l : length (drop k bytes) ≡ length bytes - k = length-drop k bytes in omega arith

@@ -1,9 +1,9 @@
 -- Bytes have one list of tokens.
-use Rattle.std.proofs.Common.{◌≡◌, ℕ, Bool, true, false, List, [], ◌∷◌, refl, sym, ap, ◌∙◌, not, arith}
+use Rattle.std.proofs.Common.{◌≡◌, ℕ, Bool, true, false, List, ◌∷◌, refl, sym, ap, ◌∙◌, not, arith}
 use Rattle.std.proofs.lemmas.Bool.{false≢true}
 use Rattle.std.proofs.lemmas.Bool.Decides.{nat_tests}
 use Rattle.tk_token.specs.Token.{Token}
-use Rattle.tk_token.specs.Cutting.{Tokens, ends, gap, word, control_space, symbol, other, is_blank, is_letter, begins_word_or_symbol}
+use Rattle.tk_token.specs.Cutting.{Tokens, ends, gap, word, control_space, symbol, other, is_blank, is_letter}
 
 more : {x : Token} {r s : List Token} → r ≡ s → x ∷ r ≡ x ∷ s
 more e = cc

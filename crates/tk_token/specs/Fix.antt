@@ -1,5 +1,5 @@
 -- Recursion by a size that falls.
-use Rattle.std.specs.Prelude.{◌≡◌, ℕ, zero, suc, Bool, true, false, nat_lt}
+use Rattle.std.specs.Prelude.{ℕ, zero, suc, Bool, true, false, nat_lt}
 
 -- f at b where the test says so
 abbrev pub ask : {A R : Type 0} → Bool → R → (A → R) → A → R

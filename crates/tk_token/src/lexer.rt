@@ -70,6 +70,7 @@ fn cut(alloc: Global, source: &[u8]) -> Result<Lexed, AllocError>
 }
 
 /// The token in front, which is made of the first bytes, as many as the answer says.
+#[tactic(auto, using(crate::proofs::Cuts::cuts))]
 fn next_kind(names: &mut Names, first: u8, tail: &[u8]) -> Result<(Kind, usize), AllocError>
     requires room { length names.old < 4294967295 }
     requires known { first < 128 }
@@ -90,6 +91,7 @@ fn next_kind(names: &mut Names, first: u8, tail: &[u8]) -> Result<(Kind, usize),
 }
 
 /// The token of a `\` and of what stands after it.
+#[tactic(auto, using(crate::proofs::Cuts::cuts))]
 fn next_control(names: &mut Names, tail: &[u8]) -> Result<(Kind, usize), AllocError>
     requires room { length names.old < 4294967295 }
     requires tail { list_all is_known tail.now ≡ true }

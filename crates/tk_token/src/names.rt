@@ -43,6 +43,7 @@ impl Names {
     }
 
     /// The number of a word, which goes last where it isn't there. Only a new word takes memory.
+    #[tactic(auto, using(crate::proofs::Listed::listed))]
     pub fn add(&mut self, word: &str) -> Result<u32, AllocError>
         requires { length self.old < 4294967295 }
         ensures words { OnOk result (self.new ≡ with_word self.old word.now) }

@@ -1,9 +1,9 @@
-use Rattle.std.proofs.Common.{◌≡◌, ℕ, ◌+◌, ◌-◌, ◌≤◌, List, length, map, take, drop, true, ◌∷◌, [], ◌++◌, refl, sym, subst, ap, ◌∙◌, arith}
+use Rattle.std.proofs.Common.{◌≡◌, ℕ, ◌+◌, ◌-◌, ◌≤◌, List, length, map, take, drop, true, ◌++◌, refl, sym, subst}
 use Rattle.std.specs.List.{AllByRecursion, list_all}
 use Rattle.tk_token.specs.declared.Tok.{Tok}
 use Rattle.tk_token.specs.Cutting.{is_known, Tokens}
 use Rattle.tk_token.specs.Pieces.{CutsOne}
-use Rattle.tk_token.specs.Token.{Token, sign_of, token_of, IsWordIn}
+use Rattle.tk_token.specs.Token.{sign_of, token_of, IsWordIn}
 use Rattle.tk_token.proofs.Fronts.{all_taken}
 use Rattle.tk_token.proofs.Loop.{words_more, goes_on_more, ends_here, list_all-drop, fewer_left}
 use Rattle.tk_token.proofs.lexer.cut.Goals as goal

@@ -1,7 +1,5 @@
-use Rattle.std.proofs.Common.{◌≡◌, ℕ, List, Some, sym, ap, subst, ◌∙◌}
+use Rattle.std.proofs.Common.{ℕ, List, ap, subst, ◌∙◌}
 use Rattle.std.specs.List.{slice_get}
-use Rattle.std.specs.Option.{option_map}
-use Rattle.std.specs.String.{string_bytes}
 use Rattle.tk_token.specs.Words.{EachOnce}
 use Rattle.tk_token.proofs.Listed.{each_once, word_at}
 use Rattle.tk_token.proofs.names.Names.word.Goals as goal
