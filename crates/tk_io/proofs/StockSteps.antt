@@ -1,6 +1,6 @@
 -- What the calls of a shelf in memory mean.
-use Rattle.std.proofs.Common.{◌≡◌, ℕ, ◌+◌, ◌-◌, ◌<◌, ◌≤◌, Bool, true, false, List, [], length, take, drop, Option, Some, None, Result, Ok, Err, refl, sym, ap, subst, ◌∙◌, inl, arith, length-drop}
-use Rattle.std.specs.Prelude.{◌≢◌, min, IfSome, unwrap_or, if◌then◌else◌, slice_index, slice_set}
+use Rattle.std.proofs.Common.{◌≡◌, ℕ, ◌+◌, ◌-◌, ◌<◌, ◌≤◌, Bool, true, false, List, [], length, take, drop, Option, Some, None, Ok, Err, refl, sym, ap, subst, ◌∙◌, inl, arith, length-drop}
+use Rattle.std.specs.Prelude.{◌≢◌, min, IfSome, unwrap_or, if◌then◌else◌, slice_index}
 use Rattle.std.specs.Option.{option_map, option_map_or}
 use Rattle.std.specs.Bool.{Decides}
 use Rattle.std.specs.Str.{bytes_eq}
@@ -11,8 +11,8 @@ use Rattle.std.proofs.Math.Seq.{drop-drop}
 use mathlib.Core.Path.{fun_ext}
 use Rattle.tk_io.specs.declared.Failed.{Failed}
 use Rattle.tk_io.specs.Causes.{count_on, is_listed}
-use Rattle.tk_io.specs.Shelf.{Shelved, Counts, Opens, Reads, HandsOut, dash, with_input}
-use Rattle.tk_io.specs.Desk.{OnDesk, IsDesk, file_at, place_of, start_at, bytes_under, left_of, is_current, opened_at, moved_on}
+use Rattle.tk_io.specs.Shelf.{Counts, Opens, Reads, HandsOut, dash, with_input}
+use Rattle.tk_io.specs.Desk.{OnDesk, IsDesk, file_at, place_of, start_at, bytes_under, is_current, opened_at, moved_on}
 use Rattle.tk_io.specs.Stock.{Stock, stock_means, count_at, called, blamed, OpensStock, ReadsStock}
 use Rattle.tk_io.proofs.DeskFiles.{in_place, named}
 

@@ -1,17 +1,14 @@
 -- What the calls of a sure shelf mean.
-use Rattle.std.proofs.Common.{◌≡◌, ℕ, ◌+◌, ◌-◌, ◌<◌, ◌≤◌, Bool, true, false, List, [], length, take, drop, Option, Some, None, Result, Ok, refl, sym, ap, subst, ◌∙◌, arith, length-drop}
+use Rattle.std.proofs.Common.{◌≡◌, ℕ, ◌+◌, ◌-◌, Bool, true, false, List, [], length, take, drop, Option, Some, None, Ok, refl, sym, ap, subst, ◌∙◌, arith, length-drop}
 use Rattle.std.specs.Prelude.{◌≢◌, min, IfSome, unwrap_or, if◌then◌else◌}
 use Rattle.std.specs.Option.{option_map, option_or}
-use Rattle.std.specs.Bool.{Decides}
 use Rattle.std.specs.Str.{bytes_eq}
 use Rattle.std.proofs.lemmas.Slice.Eq.{bytes_eq-Decides}
 use Rattle.std.proofs.lemmas.List.{drop_all}
 use Rattle.std.proofs.Math.Seq.{drop-drop}
 use mathlib.Core.Path.{fun_ext}
-use Rattle.tk_io.specs.declared.Failed.{Failed}
 use Rattle.tk_io.specs.declared.sure.Absent.{Absent}
 use Rattle.tk_io.specs.declared.sure.Absent.TheVariants.{Nothing, Input, Other}
-use Rattle.tk_io.specs.Causes.{count_on}
 use Rattle.tk_io.specs.Shelf.{Opens, Reads, HandsOut, dash, with_input}
 use Rattle.tk_io.specs.Desk.{OnDesk, IsDesk, file_at, place_of, start_at, bytes_under, is_current, opened_at, moved_on}
 use Rattle.tk_io.specs.SureShelf.{Sure, IsSure, sure_holds, sure_means, sure_open}

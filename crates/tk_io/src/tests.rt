@@ -53,36 +53,45 @@ fn reads_whole_files(rt: HostRuntime) -> Result<(), Fail> {
     Ok(())
 }
 
+// Opens a file and reads once.
+fn read_some<H: Shelf>(shelf: &mut H, name: &str, buf: &mut [u8]) -> Result<usize, Failed> {
+    shelf.open(name)?;
+    shelf.read(buf)
+}
+
+// Whether all that is read of a file is this.
+fn reads<H: Shelf>(alloc: Global, shelf: &mut H, name: &str, want: &[u8]) -> bool {
+    match read_all(alloc, shelf, name) {
+        Ok(bytes) => bytes.as_slice() == want,
+        Err(_) => false,
+    }
+}
+
 #[test]
 fn goes_on_with_standard_input(rt: HostRuntime) -> Result<(), Fail> {
     let alloc = rt.alloc();
     let files = files(alloc)?;
     assert!(rt; names_differ(&files));
     let mut shelf = MemShelf::new(alloc, files, 3, Vec::new(alloc))?;
-    let mut sure = SureShelf::new(self::files(alloc)?);
     let mut buf = [0; 4];
-    assert!(rt; shelf.open("-").is_ok());
-    assert!(rt; shelf.read(&mut buf) == Ok(3));
-    assert!(rt; shelf.read(&mut buf[..1]) == Ok(1));
-    assert!(rt; read_all(alloc, &mut shelf, "p.tex").is_ok());
-    match read_all(alloc, &mut shelf, "-") {
-        Ok(rest) => assert!(rt; rest.as_slice() == b"efgh".as_slice()),
-        Err(_) => assert!(rt; false, "no rest"),
-    }
-    match read_all(alloc, &mut shelf, "-") {
-        Ok(rest) => assert!(rt; rest.is_empty()),
-        Err(_) => assert!(rt; false, "no end"),
-    }
-    assert!(rt; sure.open("-").is_ok());
-    assert!(rt; sure.read(&mut buf) == Ok(4));
-    match read_all(alloc, &mut sure, "-") {
-        Ok(rest) => assert!(rt; rest.as_slice() == b"efgh".as_slice()),
-        Err(_) => assert!(rt; false, "no rest"),
-    }
-    match read_all(alloc, &mut sure, "q.tex") {
-        Ok(none) => assert!(rt; none.is_empty()),
-        Err(_) => assert!(rt; false, "a sure shelf failed"),
-    }
+    assert!(rt; read_some(&mut shelf, "-", &mut buf) == Ok(3));
+    assert!(rt; read_some(&mut shelf, "-", &mut buf[..1]) == Ok(1));
+    assert!(rt; reads(alloc, &mut shelf, "p.tex", b"\\draw (0,0);"));
+    assert!(rt; reads(alloc, &mut shelf, "-", b"efgh"));
+    assert!(rt; reads(alloc, &mut shelf, "-", b""));
+    Ok(())
+}
+
+#[test]
+fn is_sure(rt: HostRuntime) -> Result<(), Fail> {
+    let alloc = rt.alloc();
+    let mut shelf = SureShelf::new(files(alloc)?);
+    let mut buf = [0; 4];
+    assert!(rt; read_some(&mut shelf, "-", &mut buf) == Ok(4));
+    assert!(rt; reads(alloc, &mut shelf, "p.tex", b"\\draw (0,0);"));
+    assert!(rt; reads(alloc, &mut shelf, "-", b"efgh"));
+    assert!(rt; reads(alloc, &mut shelf, "q.tex", b""));
+    assert!(rt; SureSink::new().write(b"abc") == Ok(3));
     Ok(())
 }
 
@@ -111,8 +120,6 @@ fn writes_whole_pieces(rt: HostRuntime) -> Result<(), Fail> {
         assert!(rt; sink.bytes() == want, "{room} by {most}");
         assert!(rt; write_all(&mut sink, b"").is_ok());
     }
-    let mut sure = SureSink::new();
-    assert!(rt; sure.write(b"abc") == Ok(3));
     Ok(())
 }
 
@@ -120,20 +127,18 @@ fn writes_whole_pieces(rt: HostRuntime) -> Result<(), Fail> {
 fn adapts_the_host(rt: HostRuntime) -> Result<(), Fail> {
     let alloc = rt.alloc();
     let mut shelf = FileShelf::new(&rt);
-    match read_all(alloc, &mut shelf, "/proc/self/comm") {
-        Ok(bytes) => assert!(rt; !bytes.is_empty()),
-        Err(_) => assert!(rt; false, "no name of this process"),
-    }
+    let mut buf = [0; 4];
+    assert!(rt; read_some(&mut shelf, "/dev/zero", &mut buf) == Ok(4));
+    assert!(rt; reads(alloc, &mut shelf, "/dev/null", b""));
     assert!(rt; shelf.open("no such file") == Err(Failed));
     // a directory opens, and can't be read
-    match read_all(alloc, &mut shelf, "/") {
-        Err(ReadRefusal::Failed) => {}
-        _ => assert!(rt; false, "a directory was read"),
+    assert!(rt; read_some(&mut shelf, "/", &mut buf) == Err(Failed));
+    // a file without an end is too long
+    match read_all(alloc, &mut shelf, "/dev/zero") {
+        Err(ReadRefusal::TooLong) => {}
+        _ => assert!(rt; false, "/dev/zero has an end"),
     }
-    match read_all(alloc, &mut shelf, "-") {
-        Ok(bytes) => assert!(rt; bytes.is_empty()),
-        Err(_) => assert!(rt; false, "no standard input"),
-    }
+    assert!(rt; shelf.open("-").is_ok());
     assert!(rt; write_all(&mut OutSink::new(&rt), b"out\n").is_ok());
     assert!(rt; write_all(&mut ErrSink::new(rt.stderr()), b"err\n").is_ok());
     Ok(())

@@ -1,5 +1,5 @@
 -- Texts that are printed read back, and no shorter ones do.
-use Rattle.std.proofs.Common.{◌≡◌, ◌≢◌, ℕ, zero, suc, ◌+◌, ◌*◌, ◌/◌, ◌%◌, ◌^◌, ◌<◌, ◌≤◌, Bool, true, false, ◌&&◌, cond, eqb, leb, ltb, lt-ltb, ltb→lt, le-leb, List, [], ◌∷◌, ◌++◌, length, take, drop, Option, Some, None, ℤ, pos, negsuc, unsigned_abs, refl, sym, ap, subst, ◌∙◌, arith, inl, inr, eq-eqb, eqb-true, append-nil}
+use Rattle.std.proofs.Common.{◌≡◌, ◌≢◌, ℕ, ◌+◌, ◌*◌, ◌/◌, ◌%◌, ◌^◌, ◌<◌, ◌≤◌, Bool, true, false, eqb, leb, ltb, lt-ltb, le-leb, List, [], ◌∷◌, length, Option, Some, None, ℤ, pos, unsigned_abs, refl, sym, ap, ◌∙◌, arith, inl, inr, eq-eqb, eqb-true}
 use Rattle.std.specs.List.{list_all, position_or_len}
 use Rattle.std.specs.Char.{is_ascii_digit}
 use Rattle.std.specs.Str.Parse.{digits_value}
@@ -8,7 +8,7 @@ use Rattle.std.proofs.lemmas.Bool.{cases_lt}
 use Rattle.std.proofs.lemmas.Int.Digits.{digits_value-lt}
 use Rattle.std.proofs.lemmas.List.{take_all, drop_all}
 use Rattle.tk_num.specs.Number.{is_point, nearest_65536th, whole_digits, part_digits, is_decimal, decimal_value, decimal_parts, fraction_of}
-use Rattle.tk_num.specs.Text.{ReadsBack, IsBest, Reads, places, fewest_digits, part_text, sign_text, pointed_text, text_of, unsigned_text}
+use Rattle.tk_num.specs.Text.{IsBest, places, fewest_digits, text_of}
 use Rattle.tk_num.proofs.Best.{is_best}
 use Rattle.tk_num.proofs.Chosen.{size_text, size_reads, places-size, part_passes, no_carry}
 use Rattle.tk_num.proofs.Fixed.{both, not_point, passes, are_digits, fraction_is, decimal_all, decimal_some, value-decimal}

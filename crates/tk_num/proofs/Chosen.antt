@@ -1,5 +1,5 @@
 -- The text that is found is the choice among all texts.
-use Rattle.std.proofs.Common.{◌≡◌, ℕ, zero, suc, ◌+◌, ◌-◌, ◌*◌, ◌/◌, ◌%◌, ◌^◌, ◌<◌, ◌≤◌, Bool, true, false, ◌&&◌, cond, eqb, ltb, lt-ltb, List, [], ◌∷◌, ◌++◌, length, ℤ, unsigned_abs, refl, sym, ap, subst, ◌∙◌, arith, append-nil, append_assoc, ◌≢◌, eq-eqb, eqb-true}
+use Rattle.std.proofs.Common.{◌≡◌, ℕ, ◌+◌, ◌-◌, ◌*◌, ◌/◌, ◌%◌, ◌^◌, ◌<◌, ◌≤◌, Bool, true, false, eqb, ltb, lt-ltb, List, ◌∷◌, ◌++◌, length, ℤ, unsigned_abs, refl, sym, ap, subst, ◌∙◌, arith, append_assoc, ◌≢◌, eq-eqb, eqb-true}
 use Rattle.std.proofs.lemmas.Bool.Decides.{nat_tests}
 use Rattle.tk_num.proofs.Printed.{text-whole, text-pointed}
 use Rattle.std.specs.List.{list_all}

@@ -1,8 +1,7 @@
 -- The root that is cut downward.
-use Rattle.std.proofs.Common.{◌≡◌, ℕ, zero, suc, ◌+◌, ◌*◌, ◌<◌, ◌≤◌, Bool, true, false, leb, cond, refl, sym, ap, subst, arith, inl, inr, ℤ, pos, negsuc, unsigned_abs, Result, Ok, Err}
+use Rattle.std.proofs.Common.{◌≡◌, ℕ, zero, suc, ◌+◌, ◌*◌, ◌<◌, ◌≤◌, Bool, true, false, leb, cond, refl, ap, arith, inl, inr, ℤ, pos, negsuc, unsigned_abs, Ok}
 use Rattle.std.proofs.lemmas.Bool.{cases_lt, leb-true, leb-false, le-leb}
 use Rattle.std.specs.Int.Signed.{lt_z}
-use Rattle.std.proofs.lemmas.Bool.Decides.{nat_tests}
 use Rattle.std.proofs.Math.Nat.{mul-le-mul_left, mul-le-mul_right}
 use Rattle.tk_num.specs.Number.{floor_root, IsFloorRoot, IsScaled, scaled, square_root}
 

@@ -1,5 +1,5 @@
 -- TeX's loop for the digits of a fraction: what it knows at each digit.
-use Rattle.std.proofs.Common.{◌≡◌, ◌≢◌, ℕ, zero, suc, ◌+◌, ◌-◌, ◌*◌, ◌/◌, ◌%◌, ◌^◌, ◌<◌, ◌≤◌, Bool, true, false, cond, eqb, List, [], ◌∷◌, ◌++◌, length, refl, sym, ap, subst, ◌∙◌, arith, ltb, append_assoc, eq-eqb, append-nil, length-append, inl, inr}
+use Rattle.std.proofs.Common.{◌≡◌, ◌≢◌, ℕ, zero, suc, ◌+◌, ◌-◌, ◌*◌, ◌/◌, ◌%◌, ◌^◌, ◌<◌, ◌≤◌, true, false, cond, eqb, List, [], ◌∷◌, ◌++◌, length, refl, sym, ap, subst, ◌∙◌, arith, ltb, append_assoc, eq-eqb, append-nil, length-append, inl, inr}
 use Rattle.std.proofs.Math.Nat.{pow-suc}
 use Rattle.std.proofs.lemmas.Bool.{cases_lt}
 use Rattle.std.proofs.lemmas.Bool.Decides.{nat_tests}
@@ -54,7 +54,7 @@ goes_4 : (f : ℕ) → 100000 < 5 * (scaled_up 4 f % 131072) → nearest_65536th
 goes_4 f lt e = omega arith
 
 -- the fifth digit, rounded
-fifth : (f : ℕ) → 100000 < 5 * (scaled_up 4 f % 131072) → 10 * (scaled_up 4 f / 131072) + (5 * (scaled_up 4 f % 131072) - 17232) / 65536 ≡ nearest_digits 5 f
+fifth : (f : ℕ) → 100000 < 5 * (scaled_up 4 f % 131072) → 10 * (scaled_up 4 f / 131072) + (5 * (scaled_up 4 f % 131072) + 32768 - 50000) / 65536 ≡ nearest_digits 5 f
 fifth f lt = omega arith
 
 -- one to four
@@ -133,10 +133,10 @@ small (suc (suc zero)) lt = omega arith
 small (suc (suc (suc zero))) lt = omega arith
 small (suc (suc (suc (suc n)))) lt = absurd (omega arith)
 
-taken : (delta rest s : ℕ) → s ≡ cond (ltb 65536 delta) (rest - 17232) rest → delta ≤ 10000 → s ≡ rest
+taken : (delta rest s : ℕ) → s ≡ cond (ltb 65536 delta) (rest + 32768 - 50000) rest → delta ≤ 10000 → s ≡ rest
 taken delta rest s e le = grind (arith, nat_tests)
 
-taken_rounded : (delta rest s : ℕ) → s ≡ cond (ltb 65536 delta) (rest - 17232) rest → delta ≡ 100000 → s ≡ rest - 17232
+taken_rounded : (delta rest s : ℕ) → s ≡ cond (ltb 65536 delta) (rest + 32768 - 50000) rest → delta ≡ 100000 → s ≡ rest + 32768 - 50000
 taken_rounded delta rest s e is = grind (arith, nat_tests)
 
 -- one of the first four digits, and the rest after it
@@ -161,12 +161,12 @@ short_stop f k s delta before now few delta_is done e none le =
     ∙ ap (λ m. before ++ fixed_digits (suc k) m) end.1
     ∙ ap (λ ds. before ++ ds) (part_is f (suc k) fewest)
 
-last_stop : (f s : ℕ) (before now : List ℕ) → now ≡ before ++ fixed_digits 4 (scaled_up 4 f / 131072) → s ≡ 5 * (scaled_up 4 f % 131072) - 17232 → 100000 < 5 * (scaled_up 4 f % 131072) → ((j : ℕ) → 1 ≤ j → j ≤ 4 → reads_back j f ≡ false) → now ++ (48 + s / 65536) ∷ [] ≡ before ++ part_text f
+last_stop : (f s : ℕ) (before now : List ℕ) → now ≡ before ++ fixed_digits 4 (scaled_up 4 f / 131072) → s ≡ 5 * (scaled_up 4 f % 131072) + 32768 - 50000 → 100000 < 5 * (scaled_up 4 f % 131072) → ((j : ℕ) → 1 ≤ j → j ≤ 4 → reads_back j f ≡ false) → now ++ (48 + s / 65536) ∷ [] ≡ before ++ part_text f
 last_stop f s before now done e large none =
     digit_out 4 (nearest_digits 5 f) (scaled_up 4 f / 131072) (s / 65536) before now done (sym (rw e (fifth f large))) (omega arith)
     ∙ ap (λ ds. before ++ ds) (part_is f 5 (fewest_is_5 f none))
 
-pub last_digit : (f rest delta s : ℕ) (before now : List ℕ) → AtDigit f before now rest delta → s ≡ cond (ltb 65536 delta) (rest - 17232) rest → 10 * (s % 65536) ≤ delta * 10 → now ++ (48 + s / 65536) ∷ [] ≡ before ++ part_text f
+pub last_digit : (f rest delta s : ℕ) (before now : List ℕ) → AtDigit f before now rest delta → s ≡ cond (ltb 65536 delta) (rest + 32768 - 50000) rest → 10 * (s % 65536) ≤ delta * 10 → now ++ (48 + s / 65536) ∷ [] ≡ before ++ part_text f
 last_digit f rest delta s before now a e le =
     elim (cases_lt a.count 4) [
       | inl lt ↦
@@ -177,7 +177,7 @@ last_digit f rest delta s before now a e le =
           let delta_is : delta ≡ 100000 = a.delta_is ∙ ap (λ k. 10 ^ suc k) four in
           let rest_is : rest ≡ 5 * (scaled_up 4 f % 131072) = a.rest_is ∙ ap (λ k. 5 * (scaled_up k f % 131072)) four in
           let large : delta < rest = a.large (omega arith) in
-          last_stop f s before now (a.done ∙ ap (λ k. before ++ fixed_digits k (scaled_up k f / 131072)) four) (taken_rounded delta rest s e delta_is ∙ ap (λ r. r - 17232) rest_is) (omega arith) (λ j low high. a.shorter j low (omega arith)))
+          last_stop f s before now (a.done ∙ ap (λ k. before ++ fixed_digits k (scaled_up k f / 131072)) four) (taken_rounded delta rest s e delta_is ∙ ap (λ r. r + 32768 - 50000) rest_is) (omega arith) (λ j low high. a.shorter j low (omega arith)))
     ]
 
 short_go : (f k s delta : ℕ) (before now : List ℕ) → k < 4 → delta ≡ 10 ^ suc k → now ≡ before ++ fixed_digits k (scaled_up k f / 131072) → s ≡ 5 * (scaled_up k f % 131072) → ((j : ℕ) → 1 ≤ j → j ≤ k → reads_back j f ≡ false) → delta * 10 < 10 * (s % 65536) → AtDigit f before (now ++ (48 + s / 65536) ∷ []) (10 * (s % 65536)) (delta * 10)
@@ -193,7 +193,7 @@ short_go f k s delta before now few delta_is done e none lt =
       large = λ low. lt;
     }
 
-pub next_digit : (f rest delta s : ℕ) (before now : List ℕ) → AtDigit f before now rest delta → s ≡ cond (ltb 65536 delta) (rest - 17232) rest → delta * 10 < 10 * (s % 65536) → AtDigit f before (now ++ (48 + s / 65536) ∷ []) (10 * (s % 65536)) (delta * 10)
+pub next_digit : (f rest delta s : ℕ) (before now : List ℕ) → AtDigit f before now rest delta → s ≡ cond (ltb 65536 delta) (rest + 32768 - 50000) rest → delta * 10 < 10 * (s % 65536) → AtDigit f before (now ++ (48 + s / 65536) ∷ []) (10 * (s % 65536)) (delta * 10)
 next_digit f rest delta s before now a e lt =
     elim (cases_lt a.count 4) [
       | inl less ↦
@@ -209,5 +209,5 @@ next_digit f rest delta s before now a e lt =
 pub digits_room : (f rest delta : ℕ) (before now : List ℕ) → AtDigit f before now rest delta → length now ≤ length before + 4
 digits_room f rest delta before now a = omega (arith, a.few, ap length a.done, length-append before (fixed_digits a.count (scaled_up a.count f / 131072)), length-fixed a.count (scaled_up a.count f / 131072))
 
-pub digit_is_small : (f rest delta s : ℕ) (before now : List ℕ) → AtDigit f before now rest delta → s ≡ cond (ltb 65536 delta) (rest - 17232) rest → s < 655360
+pub digit_is_small : (f rest delta s : ℕ) (before now : List ℕ) → AtDigit f before now rest delta → s ≡ cond (ltb 65536 delta) (rest + 32768 - 50000) rest → s < 655360
 digit_is_small f rest delta s before now a e = let r = a.rest_is in grind (arith, nat_tests)

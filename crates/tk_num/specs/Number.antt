@@ -1,5 +1,5 @@
 -- Numbers in 65536ths of a point, by exact fractions (Knuth, TeX: The Program, part 7).
-use Rattle.std.specs.Prelude.{◌≡◌, ℕ, zero, suc, ◌+◌, ◌*◌, ◌/◌, ◌%◌, ◌^◌, ◌<◌, ◌≤◌, Bool, ◌&&◌, ◌==◌, nat_lt, nat_le, if◌then◌else◌, List, [], ◌∷◌, length, take, Option, Some, None, Result, Ok, Err, ℤ, pos, negsuc, ◌*ℤ◌, ◌≤ℤ◌, int_div, unsigned_abs}
+use Rattle.std.specs.Prelude.{ℕ, zero, suc, ◌+◌, ◌*◌, ◌/◌, ◌%◌, ◌^◌, ◌<◌, ◌≤◌, Bool, ◌&&◌, ◌==◌, nat_lt, nat_le, if◌then◌else◌, List, length, take, Option, Some, None, Result, Ok, Err, ℤ, pos, negsuc, ◌*ℤ◌, ◌≤ℤ◌, int_div, unsigned_abs}
 use Rattle.std.specs.List.{list_all, before_first, after_first}
 use Rattle.std.specs.Char.{is_ascii_digit}
 use Rattle.std.specs.Str.Parse.{digits_value}

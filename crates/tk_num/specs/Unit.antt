@@ -1,5 +1,5 @@
 -- Lengths in the units of TeX (Knuth, TeX: The Program, module 458).
-use Rattle.std.specs.Prelude.{ℕ, ◌+◌, ◌*◌, ◌/◌, ℤ, pos}
+use Rattle.std.specs.Prelude.{ℕ, ◌*◌, ◌/◌, ℤ, pos}
 use Rattle.tk_num.specs.Number.{product}
 use Rattle.tk_num.specs.declared.unit.Unit.{Unit}
 use Rattle.tk_num.specs.declared.unit.Unit.TheVariants.{Pt, Pc, In, Bp, Cm, Mm, Dd, Cc, Sp, Em, Ex}

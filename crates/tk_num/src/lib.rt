@@ -8,6 +8,8 @@ ghost use Rattle.tk_num.specs.Number.{IsScaled};
 mod angle;
 mod arithmetic;
 mod decimal;
+#[cfg(test)]
+mod tests;
 mod text;
 mod unit;
 

@@ -13,11 +13,12 @@ const UNITY: u32 = 65536;
 
 /// The rest from which the next digit is taken; the fifth digit, which is the last, is rounded.
 fn rounded(rest: u32, delta: u32) -> u32
-    requires { 65536 < delta → 17232 ≤ rest }
-    ensures { result ≡ (if nat_lt 65536 delta then rest - 17232 else rest) }
+    requires early { 65536 < delta → 50000 ≤ rest }
+    requires small { rest < 655360 }
+    ensures { result ≡ (if nat_lt 65536 delta then rest + 32768 - 50000 else rest) }
 {
     if delta > UNITY {
-        rest - (50_000 - 32_768)
+        rest + 32_768 - 50_000
     } else {
         rest
     }

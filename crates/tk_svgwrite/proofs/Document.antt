@@ -1,8 +1,7 @@
 -- The document that is written stands for the drawing.
-use Rattle.std.proofs.Common.{◌≡◌, ℕ, ◌+◌, ◌*◌, ◌/◌, ◌<◌, ◌≤◌, Bool, ◌&&◌, not, true, false, eqb, leb, List, [], ◌∷◌, ◌++◌, length, Option, Some, None, refl, sym, ap, subst, ◌∙◌, arith, append_assoc, lit<, inl, inr, suc, ◌||◌}
-use Rattle.std.specs.Prelude.{ℤ, pos, negsuc, neg_ℤ, ◌+ℤ◌, ◌-ℤ◌, ◌*ℤ◌, ◌≤ℤ◌, int_div, unsigned_abs, codes, nat_le, flat_map, chars, IsUtf8, IsAscii, bytes_eq}
+use Rattle.std.proofs.Common.{◌≡◌, ℕ, ◌*◌, ◌/◌, ◌<◌, Bool, ◌&&◌, true, false, eqb, List, [], ◌∷◌, ◌++◌, length, Option, Some, None, refl, sym, ap, ◌∙◌, arith, append_assoc, lit<, inl, inr, suc, ◌||◌}
+use Rattle.std.specs.Prelude.{ℤ, pos, negsuc, neg_ℤ, ◌+ℤ◌, ◌*ℤ◌, int_div, unsigned_abs, codes, nat_le, flat_map, IsAscii, bytes_eq}
 use Rattle.std.specs.List.{list_all, list_any, AllByRecursion}
-use Rattle.std.proofs.lemmas.Bool.{lt-ltb}
 use Rattle.std.proofs.lemmas.Bool.Decides.{nat_tests}
 use Rattle.std.proofs.lemmas.Int.{ints, unsigned_abs-mul}
 use Rattle.std.proofs.lemmas.List.Sums.{AllPass-from_list_all}
@@ -17,15 +16,15 @@ use Rattle.tk_item.specs.declared.Frame.{Frame}
 use Rattle.tk_item.specs.declared.Item.{Item}
 use Rattle.tk_item.specs.declared.Item.TheVariants.{Path, Label}
 use Rattle.tk_item.specs.declared.Drawing.{Drawing}
-use Rattle.tk_svg.specs.Scan.{is_xml_char, is_blank, is_name_byte, is_value_byte, after_blanks, number_at, Attribute, attribute, Attributes, none, one, EndsTag, IsName, are_among, are_distinct}
+use Rattle.tk_svg.specs.Scan.{is_xml_char, is_blank, is_name_byte, is_value_byte, after_blanks, Attribute, attribute, Attributes, none, one, EndsTag, IsName, are_among, are_distinct}
 use Rattle.tk_svg.specs.Paint.{paint_names}
 use Rattle.tk_svg.specs.Document.{IsPath, Content, IsSvg, IsDocument, IsFamily, is_family_char, size_of, points_of, declaration}
 use Rattle.tk_svg.specs.Document as doc
-use Rattle.tk_svg.specs.Fitting.{Fits, FitsItem, FitsBox, FitsStroke, BeginsWithMove}
+use Rattle.tk_svg.specs.Fitting.{Fits, FitsItem, FitsBox}
 use Rattle.tk_svg.proofs.Numbers.{number_back}
 use Rattle.tk_svg.proofs.Unique.{and_true}
-use Rattle.tk_svgwrite.specs.Plain.{attribute_text, attributes_text, Setting, setting, differing, numbers_text, data_text, rgb_text, rule_text, cap_text, join_text, dash_text, fill_settings, stroke_settings, path_attributes, item_text, IsPathItem, width_of, height_of, points_text, box_text, svg_attributes, svg_text, document_text}
-use Rattle.tk_svgwrite.specs.Ranges.{FillInRange, StrokeInRange, ItemInRange, PieceInRange}
+use Rattle.tk_svgwrite.specs.Plain.{attribute_text, attributes_text, Setting, differing, data_text, fill_settings, stroke_settings, path_attributes, item_text, IsPathItem, width_of, height_of, points_text, box_text, svg_attributes, svg_text, document_text}
+use Rattle.tk_svgwrite.specs.Ranges.{FillInRange, StrokeInRange, ItemInRange}
 use Rattle.tk_svgwrite.proofs.Numbers.{is_plain, all_both, text_plain, numbers_plain, list_back}
 use Rattle.tk_svgwrite.proofs.PathData.{unsigned_abs-neg, neg-neg, scaled_fits, data_means, data_plain}
 use Rattle.tk_svgwrite.proofs.Paint.{rgb_plain, rule_plain, cap_plain, join_plain, dash_plain, scaled_back, fill_means, stroke_means}
@@ -95,14 +94,25 @@ fill_written (Some f) h = (written _ _ (lit< tt) refl (rgb_plain f.rgb h), (writ
 
 stroke_written : (stroke : Option Stroke) → StrokeInRange stroke → SettingsWritten (stroke_settings stroke)
 stroke_written None h = tt
-stroke_written (Some s) h =
-    (written _ _ (lit< tt) refl (rgb_plain s.rgb h.rgb),
-    (written _ _ (lit< tt) refl (text_plain s.width (scaled_fits s.width h.width)),
-    (written _ _ (lit< tt) refl (cap_plain s.cap),
-    (written _ _ (lit< tt) refl (join_plain s.join),
-    (written _ _ (lit< tt) refl (text_plain s.miter (scaled_fits s.miter h.miter)),
-    (written _ _ (lit< tt) refl (dash_plain s.dash h.dash),
-    (written _ _ (lit< tt) refl (text_plain s.phase (scaled_fits s.phase h.phase)), tt)))))))
+stroke_written (Some s) h = (
+  written _ _ (lit< tt) refl (rgb_plain s.rgb h.rgb),
+  (
+    written _ _ (lit< tt) refl (text_plain s.width (scaled_fits s.width h.width)),
+    (
+      written _ _ (lit< tt) refl (cap_plain s.cap),
+      (
+        written _ _ (lit< tt) refl (join_plain s.join),
+        (
+          written _ _ (lit< tt) refl (text_plain s.miter (scaled_fits s.miter h.miter)),
+          (
+            written _ _ (lit< tt) refl (dash_plain s.dash h.dash),
+            (written _ _ (lit< tt) refl (text_plain s.phase (scaled_fits s.phase h.phase)), tt),
+          ),
+        ),
+      ),
+    ),
+  ),
+)
 
 path_written : (segs : List Seg) (fill : Option Fill) (stroke : Option Stroke) → ItemInRange (Path segs fill stroke) → AllByRecursion IsWritten (path_attributes segs fill stroke)
 path_written segs fill stroke h =
@@ -189,14 +199,25 @@ box_fits : (d : Drawing) → Fits d → AllByRecursion FitsBox (d.frame.left ∷
 box_fits d f = (f.left, (omega (arith, f.top, unsigned_abs-neg d.frame.top), (f.width, (f.height, tt))))
 
 svg_written : (d : Drawing) → Fits d → IsScaled d.size → AllByRecursion IsWritten (svg_attributes d)
-svg_written d f s =
-    (written _ _ (lit< tt) refl refl,
-    (written _ _ (lit< tt) refl refl,
-    (written _ _ (lit< tt) refl (points_plain (width_of d.frame) f.width),
-    (written _ _ (lit< tt) refl (points_plain (height_of d.frame) f.height),
-    (written _ _ (lit< tt) refl (numbers_plain (d.frame.left ∷ neg_ℤ d.frame.top ∷ width_of d.frame ∷ height_of d.frame ∷ []) (box_fits d f)),
-    (written _ _ (lit< tt) refl (weaker is_family_char is_plain family_plain d.family f.family.each),
-    (written _ _ (lit< tt) refl (text_plain d.size (scaled_fits d.size s)), tt)))))))
+svg_written d f s = (
+  written _ _ (lit< tt) refl refl,
+  (
+    written _ _ (lit< tt) refl refl,
+    (
+      written _ _ (lit< tt) refl (points_plain (width_of d.frame) f.width),
+      (
+        written _ _ (lit< tt) refl (points_plain (height_of d.frame) f.height),
+        (
+          written _ _ (lit< tt) refl (numbers_plain (d.frame.left ∷ neg_ℤ d.frame.top ∷ width_of d.frame ∷ height_of d.frame ∷ []) (box_fits d f)),
+          (
+            written _ _ (lit< tt) refl (weaker is_family_char is_plain family_plain d.family f.family.each),
+            (written _ _ (lit< tt) refl (text_plain d.size (scaled_fits d.size s)), tt),
+          ),
+        ),
+      ),
+    ),
+  ),
+)
 
 frame_back : (frame : Frame) → frame ≡ record { left = frame.left; bottom = neg_ℤ (neg_ℤ frame.top +ℤ height_of frame); right = frame.left +ℤ width_of frame; top = neg_ℤ (neg_ℤ frame.top) }
 frame_back frame =

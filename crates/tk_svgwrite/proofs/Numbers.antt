@@ -1,5 +1,5 @@
 -- Numbers that are written read back.
-use Rattle.std.proofs.Common.{◌≡◌, ℕ, zero, suc, ◌+◌, ◌<◌, ◌≤◌, ◌/◌, ◌%◌, Bool, cond, eqb, true, false, List, [], ◌∷◌, ◌++◌, length, Option, Some, None, refl, sym, ap, ◌∙◌, arith, append_assoc}
+use Rattle.std.proofs.Common.{◌≡◌, ℕ, zero, suc, ◌<◌, ◌≤◌, ◌/◌, ◌%◌, Bool, cond, eqb, true, false, List, [], ◌∷◌, ◌++◌, length, Some, refl, sym, ap, ◌∙◌, arith, append_assoc}
 use Rattle.std.specs.Prelude.{ℤ, pos, negsuc, codes, decimal, nat_le, ◌&&◌}
 use Rattle.std.specs.List.{list_all, AllByRecursion}
 use Rattle.std.specs.Char.{is_ascii_digit}
@@ -86,14 +86,14 @@ tail_back [] rest h e = refl
 tail_back (y ∷ ys) rest h e =
     let starts = text_starts y (tail_text ys ++ rest) h.0 in
     let here : number_at (after_separator (32 ∷ (numbers_text (y ∷ ys) ++ rest))) ≡ Some (y, tail_text ys ++ rest) =
-      ap (λ (w : List ℕ). number_at (after_comma (after_blanks w))) (first_then y ys rest) ∙ ap (λ (w : List ℕ). number_at (after_comma w)) starts.0 ∙ ap number_at starts.1 ∙ number_back y (tail_text ys ++ rest) h.0 (tail_ends ys rest e) in
+    ap (λ (w : List ℕ). number_at (after_comma (after_blanks w))) (first_then y ys rest) ∙ ap (λ (w : List ℕ). number_at (after_comma w)) starts.0 ∙ ap number_at starts.1 ∙ number_back y (tail_text ys ++ rest) h.0 (tail_ends ys rest e) in
     rw (here, tail_back ys rest h.1 e) refl
 
 -- numbers behind a letter
 pub numbers_back : (x : ℤ) (xs : List ℤ) (rest : List ℕ) → AllByRecursion FitsBox (x ∷ xs) → EndsNumber rest → first_numbers_at (length (x ∷ xs)) (numbers_text (x ∷ xs) ++ rest) ≡ Some (x ∷ xs, rest)
 numbers_back x xs rest h e =
     let here : number_at (after_blanks (numbers_text (x ∷ xs) ++ rest)) ≡ Some (x, tail_text xs ++ rest) =
-      ap (λ (w : List ℕ). number_at (after_blanks w)) (first_then x xs rest) ∙ ap number_at (text_starts x (tail_text xs ++ rest) h.0).0 ∙ number_back x (tail_text xs ++ rest) h.0 (tail_ends xs rest e) in
+    ap (λ (w : List ℕ). number_at (after_blanks w)) (first_then x xs rest) ∙ ap number_at (text_starts x (tail_text xs ++ rest) h.0).0 ∙ number_back x (tail_text xs ++ rest) h.0 (tail_ends xs rest e) in
     rw (here, tail_back xs rest h.1 e) refl
 
 -- a value that is one number
@@ -107,9 +107,9 @@ list_back zero x xs lt h = absurd (omega arith)
 list_back (suc n) x [] lt h = rw (ap number_at (sym (append-nil (text_of x))) ∙ number_back x [] h.0 tt) refl
 list_back (suc n) x (y ∷ ys) lt h =
     let here : number_at (numbers_text (x ∷ (y ∷ ys))) ≡ Some (x, 32 ∷ numbers_text (y ∷ ys)) =
-      ap number_at (append_assoc (text_of x) (codes " ") (numbers_text (y ∷ ys))) ∙ number_back x (32 ∷ numbers_text (y ∷ ys)) h.0 (refl, refl) in
+    ap number_at (append_assoc (text_of x) (codes " ") (numbers_text (y ∷ ys))) ∙ number_back x (32 ∷ numbers_text (y ∷ ys)) h.0 (refl, refl) in
     let whole = sym (append-nil (numbers_text (y ∷ ys))) ∙ first_then y ys [] in
     let starts = text_starts y (tail_text ys ++ []) h.1.0 in
     let next : after_separator (32 ∷ numbers_text (y ∷ ys)) ≡ numbers_text (y ∷ ys) =
-      ap (λ (w : List ℕ). after_comma (after_blanks w)) whole ∙ ap after_comma starts.0 ∙ starts.1 ∙ sym whole in
+    ap (λ (w : List ℕ). after_comma (after_blanks w)) whole ∙ ap after_comma starts.0 ∙ starts.1 ∙ sym whole in
     rw (here, next, list_back n y ys (omega arith) h.1) refl

@@ -1,8 +1,8 @@
 -- What is written of a fill and of a stroke stands for them.
-use Rattle.std.proofs.Common.{◌≡◌, ℕ, ◌+◌, ◌-◌, ◌*◌, ◌/◌, ◌%◌, ◌<◌, ◌≤◌, Bool, ◌&&◌, cond, ltb, leb, true, false, List, [], ◌∷◌, ◌++◌, length, Option, Some, None, refl, sym, ap, ◌∙◌, arith}
-use Rattle.std.specs.Prelude.{ℤ, pos, codes, int_le, ◌≤ℤ◌, option_map, bytes_eq, IsTrue}
+use Rattle.std.proofs.Common.{◌≡◌, ℕ, ◌+◌, ◌*◌, ◌/◌, ◌%◌, ◌<◌, ◌≤◌, Bool, true, false, List, [], ◌∷◌, ◌++◌, length, Option, Some, None, refl, sym, ap, ◌∙◌, arith}
+use Rattle.std.specs.Prelude.{ℤ, pos, codes, int_le, option_map, bytes_eq}
 use Rattle.std.specs.List.{list_all, AllByRecursion}
-use Rattle.std.proofs.lemmas.Bool.{le-leb, false≢true}
+use Rattle.std.proofs.lemmas.Bool.{le-leb}
 use Rattle.std.proofs.lemmas.Bool.Decides.{nat_tests}
 use Rattle.std.proofs.lemmas.Int.{ints}
 use Rattle.std.proofs.lemmas.Slice.Eq.{bytes_eq-Decides}
@@ -22,8 +22,8 @@ use Rattle.tk_svg.specs.Scan.{Attribute, number_at, unsigned_at, unsigned_from, 
 use Rattle.tk_svg.specs.Paint.{given, hex_digit, hex_byte, rgb_of, paint_of, rule_of, cap_of, join_of, is_length, length_of, miter_of, dashes_of, fill_of, stroke_of}
 use Rattle.tk_svg.specs.Fitting.{FitsBox, FitsStroke}
 use Rattle.tk_svg.proofs.Unique.{and_true}
-use Rattle.tk_svgwrite.specs.Plain.{numbers_text, hex_glyph, hex_text, rgb_text, rule_text, cap_text, join_text, dash_text, fill_settings, stroke_settings, differing, Setting}
-use Rattle.tk_svgwrite.specs.Ranges.{RgbInRange, FillInRange, StrokeNumbersInRange, StrokeInRange}
+use Rattle.tk_svgwrite.specs.Plain.{numbers_text, hex_glyph, hex_text, rgb_text, rule_text, cap_text, join_text, dash_text, fill_settings, stroke_settings, differing}
+use Rattle.tk_svgwrite.specs.Ranges.{RgbInRange, FillInRange, StrokeInRange}
 use Rattle.tk_svgwrite.proofs.Numbers.{is_plain, numbers_plain, number_of_back, list_back}
 use Rattle.tk_svgwrite.proofs.PathData.{scaled_fits}
 use Rattle.tk_svgwrite.proofs.Settings.{given_back}

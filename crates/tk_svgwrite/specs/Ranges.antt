@@ -1,5 +1,5 @@
 -- What the types of a drawing's parts say of its numbers.
-use Rattle.std.specs.Prelude.{ℕ, ◌<◌, List, Option, Some, None, ℤ}
+use Rattle.std.specs.Prelude.{◌<◌, Option, Some, None}
 use Rattle.std.specs.List.{AllByRecursion}
 use Rattle.tk_num.specs.Number.{IsScaled}
 use Rattle.tk_item.specs.Lengths.{AreDashes}

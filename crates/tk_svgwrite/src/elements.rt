@@ -13,7 +13,9 @@ ghost use Rattle.tk_svgwrite.specs.Ranges.{FillInRange, StrokeInRange, StrokeNum
 use crate::attributes::{
     close_attribute, open_attribute, put_attribute, put_dashes, put_number_setting, put_setting,
 };
-use crate::values::{cap_word, join_word, put_data, put_number, put_pair, put_scaled, rgb_digits, rule_word};
+use crate::values::{
+    cap_word, join_word, put_data, put_number, put_pair, put_scaled, rgb_digits, rule_word,
+};
 use std::alloc::AllocError;
 use tk_item::{Drawing, Fill, Frame, Item, Seg, Stroke, Text};
 use tk_num::Scaled;

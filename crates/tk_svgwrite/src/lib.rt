@@ -1,4 +1,9 @@
-//! Writes SVG documents.
+//! Writes a drawing as an SVG document.
+//!
+//! A drawing has one document: an element a line, and each attribute of a path exactly where its value
+//! is not the initial one, in a fixed order. Lengths are in TeX's points, which are the user units of
+//! the document, with at most five digits after the point. A drawing's y is upward, a document's
+//! downward.
 #![tactic(auto)]
 
 ghost use Rattle.std.specs.Prelude.{◌≡◌, IfOk};
@@ -9,13 +14,16 @@ ghost use Rattle.tk_svgwrite.specs.Plain.{document_text, IsPathItem};
 
 mod attributes;
 mod elements;
+#[cfg(test)]
+mod tests;
 mod values;
 
 use elements::{put_item, put_svg};
 use std::alloc::{AllocError, Global};
 use tk_item::Drawing;
 
-/// Writes the SVG document of a drawing that fits the form. Labels are not written.
+/// Writes the SVG document of a drawing of paths, in time linear in its length. The document means
+/// this drawing and no other. The only error is want of memory.
 pub fn write_svg(alloc: Global, drawing: &Drawing) -> Result<Vec<u8>, AllocError>
     requires fits { Fits drawing.now }
     requires paths { AllByRecursion IsPathItem drawing.now.items }

@@ -9,5 +9,5 @@ use Rattle.tk_svgwrite.proofs.write_svg.Given as goal
 abbrev pub invariant-loop-item : goal.invariant-loop-item
 invariant-loop-item l = record {
   text : l.out.items ≡ l.initial.out.items ++ flat_map item_text (take l.item-index l.item-items);
-  range : All ItemInRange (take l.item-index l.item-items)
+  range : All ItemInRange (take l.item-index l.item-items);
 }

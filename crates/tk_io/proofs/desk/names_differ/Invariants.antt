@@ -1,4 +1,4 @@
-use Rattle.std.proofs.Common.{◌≡◌, ℕ, ◌<◌, Some}
+use Rattle.std.proofs.Common.{ℕ, ◌<◌}
 use Rattle.tk_io.proofs.Names.{IsFirst}
 use Rattle.tk_io.proofs.desk.names_differ.Given as goal
 

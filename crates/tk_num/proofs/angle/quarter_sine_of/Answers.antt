@@ -1,5 +1,5 @@
-use Rattle.std.proofs.Common.{◌≡◌, ◌≤◌, ◌<◌, ◌-◌, ◌/◌, ◌%◌, ◌*◌, ◌+◌, arith}
-use Rattle.std.proofs.Math.Nat.{mul-le-mul_left, mul-le-mul_right}
+use Rattle.std.proofs.Common.{◌≤◌, ◌-◌, ◌/◌, ◌%◌, ◌+◌, arith}
+use Rattle.std.proofs.Math.Nat.{mul-le-mul_right}
 use Rattle.tk_num.proofs.Sines.{sines_rise, sines_within, quarter_within}
 use Rattle.tk_num.proofs.angle.quarter_sine_of.Goals as goal
 

@@ -1,4 +1,4 @@
-use Rattle.std.proofs.Common.{◌≡◌, ◌∙◌, ap, arith, ℤ, pos, unsigned_abs}
+use Rattle.std.proofs.Common.{◌∙◌, ap, arith, ℤ, pos, unsigned_abs}
 use Rattle.std.specs.Int.{w64, int_rem_euclid}
 use Rattle.std.proofs.lemmas.Int.{to_z-of_z}
 use Rattle.tk_num.specs.Angle.{turn_sine}

@@ -1,4 +1,4 @@
-use Rattle.std.proofs.Common.{◌≡◌, ◌∙◌, ap, sym, arith, subst, SFits, ◌*ℤ◌, pos, ℤ, unsigned_abs, ◌≤◌, int_div, ◌≢◌, to_z, of_z}
+use Rattle.std.proofs.Common.{◌≡◌, ◌∙◌, ap, sym, arith, subst, ◌*ℤ◌, pos, ℤ, unsigned_abs, ◌≤◌, int_div, ◌≢◌, to_z, of_z}
 use Rattle.std.specs.Int.{w64}
 use Rattle.std.proofs.lemmas.Int.{to_z-of_z}
 use Rattle.tk_num.specs.Number.{scaled, quotient, IsScaled}

@@ -1,4 +1,4 @@
-use Rattle.std.proofs.Common.{◌≡◌, ◌≤◌, ℤ, pos, ℕ, arith, ap, sym, subst, ◌∙◌, unsigned_abs, ◌*◌, false}
+use Rattle.std.proofs.Common.{◌≡◌, ℤ, pos, arith, ap, sym, subst, ◌∙◌, unsigned_abs, ◌*◌, false}
 use Rattle.std.specs.Int.{w64}
 use Rattle.std.specs.Int.Signed.{lt_z}
 use Rattle.std.proofs.lemmas.Int.{to_z-of_z, to_z_pos}

@@ -1,4 +1,4 @@
-use Rattle.std.proofs.Common.{◌≡◌, ℕ, ◌≤◌, ◌<◌, ◌+◌, ◌-◌, ◌*◌, ◌^◌, get_or, arith, sym, ap, ◌∙◌}
+use Rattle.std.proofs.Common.{arith}
 use Rattle.tk_num.proofs.Digits.{digit_at, bounds_at, value_more, below_pow_more, pow_17}
 use Rattle.tk_num.proofs.decimal.value_of.Goals as goal
 

@@ -1,4 +1,4 @@
-use Rattle.std.proofs.Common.{◌≡◌, ℕ, ◌≤◌, ◌<◌, ◌+◌, ◌-◌, ◌*◌, ◌^◌, get_or, arith, sym, ap, ◌∙◌, true}
+use Rattle.std.proofs.Common.{◌≡◌, ◌+◌, get_or, arith, sym, ◌∙◌, true}
 use Rattle.std.specs.Char.{is_ascii_digit}
 use Rattle.tk_num.proofs.Digits.{all_more, value_more, value_bound}
 use Rattle.tk_num.proofs.decimal.whole_of.Goals as goal

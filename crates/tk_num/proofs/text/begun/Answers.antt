@@ -1,6 +1,6 @@
-use Rattle.std.proofs.Common.{◌≡◌, ◌≤◌, ◌+◌, ◌++◌, ◌∷◌, [], ◌∙◌, lit<, arith, ap, length}
+use Rattle.std.proofs.Common.{◌≡◌, ◌≤◌, ◌++◌, ◌∷◌, [], ◌∙◌, lit<, arith, ap, length}
 use Rattle.std.specs.Fmt.{decimal}
-use Rattle.arrayvec.specs.ArrayString.{ArrayString, array_string_len}
+use Rattle.arrayvec.specs.ArrayString.{array_string_len}
 use Rattle.tk_num.proofs.Printed.{length-whole}
 use Rattle.tk_num.proofs.text.begun.Goals as goal
 use Rattle.tk_num.proofs.text.begun.Goals.{then-sp-lt0, else-sp-lt0}

@@ -1,4 +1,4 @@
-use Rattle.std.proofs.Common.{◌≡◌, ◌∙◌, sym, ap, subst, lit<, ◌<◌, ◌^◌, unsigned_abs, arith}
+use Rattle.std.proofs.Common.{◌∙◌, sym, ap, subst, lit<, ◌<◌, ◌^◌, unsigned_abs}
 use Rattle.std.specs.Int.{w64}
 use Rattle.std.proofs.lemmas.Int.{to_z-of_z}
 use Rattle.tk_num.specs.Text.{pointed_text, IsPointedTextOf}

@@ -1,4 +1,4 @@
-use Rattle.std.proofs.Common.{◌≡◌, ℕ, ◌+◌, ◌<◌, ◌/◌, ◌++◌, ◌∷◌, [], length, arith, ap, ◌∙◌, lit<, subst, sym, ◌*◌, ◌%◌}
+use Rattle.std.proofs.Common.{◌≡◌, ◌+◌, ◌<◌, ◌/◌, ◌++◌, ◌∷◌, [], length, arith, ap, ◌∙◌, lit<, subst, sym, ◌*◌, ◌%◌}
 use Rattle.std.proofs.lemmas.Str.{encode_ascii}
 use Rattle.tk_num.proofs.Knuth.{AtDigit, first_digit, next_digit, last_digit, digits_room, digit_is_small}
 use Rattle.tk_num.proofs.text.push_part.Goals as goal

@@ -1,4 +1,4 @@
-use Rattle.std.proofs.Common.{ℕ, ◌-◌}
+use Rattle.std.proofs.Common.{◌-◌}
 use Rattle.tk_num.proofs.Knuth.{AtDigit}
 use Rattle.tk_num.proofs.text.push_part.Given as goal
 

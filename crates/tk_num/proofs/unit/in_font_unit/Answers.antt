@@ -1,9 +1,9 @@
-use Rattle.std.proofs.Common.{◌≡◌, ◌≤◌, ◌∙◌, ap, sym, subst, arith, pos, ℤ, unsigned_abs, ◌+ℤ◌, ◌*ℤ◌, int_div}
+use Rattle.std.proofs.Common.{◌≡◌, ◌≤◌, ◌∙◌, ap, subst, arith, pos, ℤ, unsigned_abs, ◌+ℤ◌, ◌*ℤ◌, int_div}
 use Rattle.std.specs.Int.{w64}
 use Rattle.std.proofs.lemmas.Int.{to_z-of_z, ints}
 use Rattle.tk_num.proofs.Carry.{font_length}
 use Rattle.tk_num.proofs.Wrap.{wrapped_mul, wrapped_add, product_small, sum_fits, fits}
-use Rattle.tk_num.specs.Number.{product, IsWhole, IsFraction}
+use Rattle.tk_num.specs.Number.{IsWhole, IsFraction}
 use Rattle.tk_num.proofs.unit.in_font_unit.Goals as goal
 
 whole_small : (z : ℤ) → IsWhole z → unsigned_abs z ≤ 1073741823

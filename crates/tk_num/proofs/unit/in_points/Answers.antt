@@ -1,4 +1,4 @@
-use Rattle.std.proofs.Common.{◌≡◌, ◌∙◌, ap, arith, pos}
+use Rattle.std.proofs.Common.{◌∙◌, ap, arith, pos}
 use Rattle.std.specs.Int.{w64}
 use Rattle.std.proofs.lemmas.Int.{to_z_pos}
 use Rattle.tk_num.proofs.Carry.{carried, length_fits}

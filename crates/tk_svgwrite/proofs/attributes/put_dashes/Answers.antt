@@ -1,4 +1,4 @@
-use Rattle.std.proofs.Common.{◌≡◌, ◌∷◌, ◌++◌, ◌∙◌, sym, ap, length, subst, codes}
+use Rattle.std.proofs.Common.{◌∙◌, sym, ap, length}
 use Rattle.std.proofs.lemmas.Result.{IfOk-equal}
 use Rattle.tk_svgwrite.proofs.Writing.{no_dashes, some_dashes}
 use Rattle.tk_svgwrite.proofs.attributes.put_dashes.Goals as goal

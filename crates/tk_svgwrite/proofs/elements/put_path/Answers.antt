@@ -1,5 +1,5 @@
 use Rattle.tk_svgwrite.proofs.elements.put_path.Goals as goal
-use Rattle.std.proofs.Common.{◌≡◌, ◌++◌, ◌∙◌, ap, codes}
+use Rattle.std.proofs.Common.{◌++◌, ◌∙◌, ap, codes}
 use Rattle.tk_svgwrite.proofs.Writing.{path_parts}
 
 pub returns-clause-text : goal.returns-clause-text

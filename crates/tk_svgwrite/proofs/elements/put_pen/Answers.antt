@@ -1,8 +1,5 @@
-use Rattle.std.proofs.Common.{◌≡◌, List, ℕ, ◌∷◌, [], ◌++◌, ◌∙◌, ap, codes}
 use Rattle.std.proofs.lemmas.Result.{IfOk-equal}
-use Rattle.tk_num.specs.Text.{text_of}
-use Rattle.tk_svgwrite.specs.Plain.{setting, rgb_text, cap_text, join_text, dash_text}
-use Rattle.tk_svgwrite.proofs.Writing.{settings_text, seven_settings, pen_parts}
+use Rattle.tk_svgwrite.proofs.Writing.{pen_parts}
 use Rattle.tk_svgwrite.proofs.elements.put_pen.Goals as goal
 
 pub returns-clause-text : goal.returns-clause-text

@@ -1,4 +1,4 @@
-use Rattle.std.proofs.Common.{◌≡◌, ◌++◌, ◌∙◌, ap, codes}
+use Rattle.std.proofs.Common.{◌++◌, ◌∙◌, ap, codes}
 use Rattle.tk_svgwrite.specs.Plain.{attribute_text}
 use Rattle.tk_svgwrite.proofs.Writing.{svg_steps, svg_parts}
 use Rattle.tk_svgwrite.proofs.elements.put_svg.Goals as goal

@@ -8,5 +8,5 @@ use Rattle.tk_svgwrite.proofs.values.put_data.Given as goal
 abbrev pub invariant-loop-seg : goal.invariant-loop-seg
 invariant-loop-seg l = record {
   text : l.out.items ≡ l.initial.out.items ++ data_text (take l.seg-index l.segs);
-  range : All PieceInRange (take l.seg-index l.segs)
+  range : All PieceInRange (take l.seg-index l.segs);
 }

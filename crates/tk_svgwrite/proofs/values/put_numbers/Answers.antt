@@ -1,11 +1,10 @@
-use Rattle.std.proofs.Common.{◌++◌, ◌∷◌, ◌∙◌, ap, sym, arith, subst, append_assoc}
+use Rattle.std.proofs.Common.{◌++◌, ◌∙◌, ap, sym, arith, subst, append_assoc}
 use Rattle.std.specs.Prelude.{flat_map}
 use Rattle.std.specs.List.{All}
 use Rattle.std.proofs.lemmas.List.{take_all}
 use Rattle.std.proofs.lemmas.List.Elements.{recursion_from_All}
 use Rattle.tk_num.specs.Number.{IsScaled}
 use Rattle.tk_num.specs.Text.{text_of}
-use Rattle.tk_svgwrite.specs.Plain.{numbers_text}
 use Rattle.tk_svgwrite.proofs.Writing.{spaced_text, numbers_text-cons, flat_map_step, all_step}
 use Rattle.tk_svgwrite.proofs.values.put_numbers.Goals as goal
 

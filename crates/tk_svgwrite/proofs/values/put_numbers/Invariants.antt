@@ -1,8 +1,7 @@
-use Rattle.std.proofs.Common.{◌≡◌, ◌++◌, ◌∷◌, take}
-use Rattle.std.specs.Prelude.{codes, flat_map, ℤ}
+use Rattle.std.proofs.Common.{◌≡◌, ◌++◌, take}
+use Rattle.std.specs.Prelude.{flat_map}
 use Rattle.std.specs.List.{All}
 use Rattle.tk_num.specs.Number.{IsScaled}
-use Rattle.tk_num.specs.Text.{text_of}
 use Rattle.tk_svgwrite.proofs.Writing.{spaced_text}
 use Rattle.tk_svgwrite.proofs.values.put_numbers.Given as goal
 
@@ -10,5 +9,5 @@ use Rattle.tk_svgwrite.proofs.values.put_numbers.Given as goal
 abbrev pub invariant-loop-number : goal.invariant-loop-number
 invariant-loop-number l = record {
   text : l.out.items ≡ l.initial.out.items ++ flat_map spaced_text (take l.number-index l.rest);
-  range : All IsScaled (take l.number-index l.rest)
+  range : All IsScaled (take l.number-index l.rest);
 }

@@ -1,4 +1,4 @@
-use Rattle.std.proofs.Common.{List, ℕ, sym, subst}
+use Rattle.std.proofs.Common.{sym, subst}
 use Rattle.tk_io.specs.Desk.{OnDesk, HoldsEach}
 use Rattle.tk_io.proofs.Names.{HoldsEach-new}
 use Rattle.tk_io.proofs.shelves.MemShelf.new.Goals as goal

@@ -1,6 +1,6 @@
-use Rattle.std.proofs.Common.{◌≡◌, ℕ, length, true, Option, Some, None, Ok, sym, ap, subst, ◌∙◌}
+use Rattle.std.proofs.Common.{◌≡◌, length, true, Some, None, Ok, sym, ap, subst, ◌∙◌}
 use Rattle.tk_io.specs.Shelf.{Opens}
-use Rattle.tk_io.specs.Desk.{OnDesk, place_of, file_at, opened_at}
+use Rattle.tk_io.specs.Desk.{OnDesk, place_of, opened_at}
 use Rattle.tk_io.specs.Stock.{Stock, stock_means}
 use Rattle.tk_io.specs.StockView.{shown_stock}
 use Rattle.tk_io.proofs.DeskFiles.{named}

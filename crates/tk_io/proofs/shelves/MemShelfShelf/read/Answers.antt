@@ -1,6 +1,6 @@
-use Rattle.std.proofs.Common.{◌≡◌, ◌<◌, ◌≤◌, ◌-◌, ℕ, List, length, take, drop, min, true, false, Option, Some, None, Ok, refl, sym, ap, subst, ◌∙◌, arith, length-append, length-take, length-drop}
+use Rattle.std.proofs.Common.{◌<◌, ◌≤◌, ◌-◌, length, take, drop, min, true, false, Ok, refl, sym, ap, subst, ◌∙◌}
 use Rattle.tk_io.specs.Shelf.{Reads}
-use Rattle.tk_io.specs.Desk.{OnDesk, IsDesk, place_of, file_at, moved_on}
+use Rattle.tk_io.specs.Desk.{IsDesk, file_at, moved_on}
 use Rattle.tk_io.specs.Stock.{Stock, stock_means}
 use Rattle.tk_io.specs.StockView.{shown_stock}
 use Rattle.tk_io.proofs.StockSteps.{called-is, fits_there, listed_is, Reads-moved, Reads-blamed, ReadsStock-listed, ReadsStock-moved}

@@ -1,6 +1,5 @@
-use Rattle.std.proofs.Common.{◌≡◌, ℕ, Bool, true, List, rules, inl, refl, sym, ap, ◌∙◌}
+use Rattle.std.proofs.Common.{◌≡◌, ℕ, true, List, inl, refl, sym, ap, ◌∙◌}
 use Rattle.tk_io.specs.Causes.{is_listed}
-use Rattle.tk_io.specs.Held.{WritesHeld}
 use Rattle.tk_io.proofs.sinks.MemSinkSink.write.Goals as goal
 
 pub returns-then-contains-clause-exactly : goal.returns-then-contains-clause-exactly

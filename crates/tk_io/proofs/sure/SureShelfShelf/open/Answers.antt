@@ -1,7 +1,7 @@
 use Rattle.std.proofs.Common.{◌≡◌, Some, Ok, sym, ap, subst, ◌∙◌}
 use Rattle.tk_io.specs.declared.sure.Absent.TheVariants.{Nothing}
 use Rattle.tk_io.specs.Shelf.{Opens}
-use Rattle.tk_io.specs.Desk.{OnDesk, place_of, file_at, opened_at}
+use Rattle.tk_io.specs.Desk.{OnDesk, place_of, opened_at}
 use Rattle.tk_io.specs.SureShelf.{Sure, sure_means}
 use Rattle.tk_io.proofs.DeskFiles.{named}
 use Rattle.tk_io.proofs.SureSteps.{Sure-opened}
