@@ -3,7 +3,7 @@
 //! They tell no bytes: nothing is proved of what the host holds, hands out or takes. Each call asks
 //! the host once, and whatever the host refuses counts as one fault.
 
-ghost use Rattle.std.specs.Prelude.{None};
+ghost use Rattle.std.specs.Prelude.{◌≡◌, None, false};
 ghost use Rattle.tk_io.specs.Sink.{Writes};
 
 use crate::{Failed, Shelf, Sink};
@@ -28,7 +28,10 @@ enum Source<F, I> {
 }
 
 impl<'a, R: Files + Input> FileShelf<'a, R> {
-    pub fn new(runtime: &'a R) -> Self {
+    /// No file is open then, and no fault was counted.
+    pub fn new(runtime: &'a R) -> Self
+        ensures { ⟦<FileShelf<'a, R> as Shelf>⟧.meaning result ≡ record { holds = None; left = None; taken = 0; is_open = λ _. false; faults = λ _. 0; sure = false } }
+    {
         FileShelf {
             runtime,
             current: None,
@@ -89,7 +92,10 @@ pub struct OutSink<'a, R: Print> {
 }
 
 impl<'a, R: Print> OutSink<'a, R> {
-    pub fn new(runtime: &'a R) -> Self {
+    /// No fault was counted then.
+    pub fn new(runtime: &'a R) -> Self
+        ensures { ⟦<OutSink<'a, R> as Sink>⟧.meaning result ≡ record { bytes = None; faults = 0 } }
+    {
         OutSink {
             output: io::writer(runtime),
             faults: 0,
@@ -115,7 +121,10 @@ pub struct ErrSink {
 }
 
 impl ErrSink {
-    pub fn new(error: Stderr) -> Self {
+    /// No fault was counted then.
+    pub fn new(error: Stderr) -> Self
+        ensures { ⟦<ErrSink as Sink>⟧.meaning result ≡ record { bytes = None; faults = 0 } }
+    {
         ErrSink { error, faults: 0 }
     }
 }

@@ -38,8 +38,10 @@ turn_sine a = if nat_lt a (degrees 180) then pos (half_sine a) else neg_ℤ (pos
 abbrev pub sine : ℤ → ℤ
 sine angle = turn_sine (unsigned_abs (int_rem_euclid angle (pos (degrees 360))))
 
+-- the cosine of any angle: the sine of the angle and 90 degrees
 abbrev pub cosine : ℤ → ℤ
 cosine angle = sine (angle +ℤ pos (degrees 90))
 
+-- the tangent of any angle: the quotient of sine and cosine
 abbrev pub tangent : ℤ → Result ℤ NumFault
 tangent angle = quotient (sine angle) (cosine angle)

@@ -10,6 +10,7 @@ use Rattle.tk_num.specs.declared.NumFault.TheVariants.{TooLarge, DivZero, Domain
 abbrev pub IsScaled : ℤ → Type 0
 IsScaled z = unsigned_abs z ≤ 1073741823
 
+-- the same, as a test
 abbrev pub is_scaled : ℤ → Bool
 is_scaled z = nat_le (unsigned_abs z) 1073741823
 
@@ -42,17 +43,19 @@ square_root (negsuc n) = Err Domain
 
 -- ---- decimals
 
--- the 65536ths nearest to the fraction whose n digits after the point are those of m, ties upward
+-- the 65536ths nearest to the fraction whose n digits after the point are those of m, ties upward (module 102)
 abbrev pub nearest_65536th : ℕ → ℕ → ℕ
 nearest_65536th n m = (131072 * m + 10 ^ n) / (2 * 10 ^ n)
 
+-- the byte of a point
 abbrev pub is_point : ℕ → Bool
 is_point c = c == 46
 
--- the digits before the point, and those after it
+-- what stands before the first point, or all where there is none
 abbrev pub whole_digits : List ℕ → List ℕ
 whole_digits text = before_first is_point text
 
+-- what stands after the first point
 abbrev pub part_digits : List ℕ → List ℕ
 part_digits text = after_first is_point text
 
@@ -72,7 +75,7 @@ decimal_value text = 65536 * digits_value 10 (whole_digits text) + fraction_of (
 abbrev pub IsWhole : ℤ → Type 0
 IsWhole z = (pos 0 ≤ℤ z) × (z ≤ℤ pos 1073741823)
 
--- 65536ths that are no whole
+-- 65536ths that come to no whole
 abbrev pub IsFraction : ℤ → Type 0
 IsFraction z = (pos 0 ≤ℤ z) × (z ≤ℤ pos 65535)
 

@@ -43,6 +43,7 @@ abbrev pub sign_text : ℤ → List ℕ
 sign_text (pos n) = []
 sign_text (negsuc n) = 45 ∷ []
 
+-- the digit 0 alone
 abbrev pub is_lone_zero : List ℕ → Bool
 is_lone_zero [] = false
 is_lone_zero (d ∷ []) = d == 48

@@ -29,6 +29,7 @@ pub record FitsText (text : List ℕ) : Type 0 where
   pub some : 0 < length text
   pub each : IsTrue (list_all is_label_char text)
 
+-- a path or a label that fits
 abbrev pub FitsItem : Item → Type 0
 FitsItem (Path segs fill stroke) = BeginsWithMove segs × FitsStroke stroke
 FitsItem (Label label) = FitsText label.text

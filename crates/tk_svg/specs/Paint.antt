@@ -23,9 +23,11 @@ given attributes name initial = unwrap_or (attribute name attributes) initial
 
 -- ---- values
 
+-- a hexadecimal digit (SVG 1.1, section 4.2, color)
 abbrev pub hex_digit : ℕ → Option ℕ
 hex_digit c = if nat_le 48 c && nat_le c 57 then Some (c - 48) else (if nat_le 65 c && nat_le c 70 then Some (c - 55) else (if nat_le 97 c && nat_le c 102 then Some (c - 87) else None))
 
+-- two of them
 abbrev pub hex_byte : ℕ → ℕ → Option ℕ
 hex_byte a b = do
   high ← hex_digit a
@@ -45,12 +47,15 @@ rgb_of _ = None
 unfoldable pub paint_of : List ℕ → Option (Option Rgb)
 paint_of value = if bytes_eq value (codes "none") then Some None else (rgb_of value >>= λ c. Some (Some c))
 
+-- which points are inside
 unfoldable pub rule_of : List ℕ → Option Rule
 rule_of = word_of ((codes "nonzero", rule.NonZero) ∷ (codes "evenodd", rule.EvenOdd) ∷ [])
 
+-- how an open line ends
 unfoldable pub cap_of : List ℕ → Option Cap
 cap_of = word_of ((codes "butt", cap.Butt) ∷ (codes "round", cap.Round) ∷ (codes "square", cap.Square) ∷ [])
 
+-- how two lines meet
 unfoldable pub join_of : List ℕ → Option Join
 join_of = word_of ((codes "miter", join.Miter) ∷ (codes "round", join.Round) ∷ (codes "bevel", join.Bevel) ∷ [])
 

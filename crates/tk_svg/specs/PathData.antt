@@ -43,7 +43,7 @@ abbrev pub begins_number : List ℕ → Bool
 begins_number [] = false
 begins_number (c ∷ cs) = c == 43 || (c == 45 || (c == 46 || is_ascii_digit c))
 
--- the commands of the bytes, where further numbers are read by the letter k
+-- the commands of the bytes, where further numbers are read by the letter k: only blanks are left, or a letter with its numbers, or further numbers
 pub data Commands : Letter → List ℕ → List Command → Type 0 where
   ends : {k : Letter} {bytes : List ℕ} → after_blanks bytes ≡ [] → Commands k bytes []
   named : {k j : Letter} {c : ℕ} {bytes front rest : List ℕ} {args : List ℤ} {more : List Command} → after_blanks bytes ≡ c ∷ front → letter_of c ≡ Some j → first_numbers_at (arity j) front ≡ Some (args, rest) → Commands (repeated j) rest more → Commands k bytes ((j, args) ∷ more)

@@ -36,20 +36,22 @@ after_separator bytes = after_comma (after_blanks bytes)
 
 -- ---- numbers, each read as long as it can be (SVG 1.1, section 8.3.9, number, without exponents)
 
--- the digits at the front, and what stands behind them
+-- the digits at the front
 abbrev pub digits_of : List ℕ → List ℕ
 digits_of [] = []
 digits_of (c ∷ cs) = if is_ascii_digit c then c ∷ digits_of cs else []
 
+-- what stands behind them
 abbrev pub after_digits : List ℕ → List ℕ
 after_digits [] = []
 after_digits (c ∷ cs) = if is_ascii_digit c then after_digits cs else c ∷ cs
 
--- the digits behind a point at the front, and what stands behind them
+-- the digits behind a point at the front
 abbrev pub part_of : List ℕ → List ℕ
 part_of [] = []
 part_of (c ∷ cs) = if c == 46 then digits_of cs else []
 
+-- what stands behind the point and its digits
 abbrev pub after_part : List ℕ → List ℕ
 after_part [] = []
 after_part (c ∷ cs) = if c == 46 then after_digits cs else c ∷ cs

@@ -1,5 +1,5 @@
 //! What the bytes of an SVG document mean: definitions, which the writer and the reader share, and
-//! the laws that no bytes mean two things.
+//! the laws that no bytes mean two things, and that what they mean fits the form.
 //!
 //! The form is a part of SVG 1.1. A document is an `svg` element with seven attributes, and `path`
 //! elements with the commands `M`, `L`, `C` and `Z` and with the attributes of fill and stroke.
@@ -9,6 +9,7 @@ ghost use Rattle.std.specs.Prelude.{◌≡◌, ℕ, List};
 ghost use Rattle.tk_item.specs.declared.Drawing.{Drawing};
 ghost use Rattle.tk_item.specs.declared.Seg.{Seg};
 ghost use Rattle.tk_svg.specs.Document.{IsDocument};
+ghost use Rattle.tk_svg.specs.Fitting.{Fits};
 ghost use Rattle.tk_svg.specs.PathData.{IsPathData};
 
 /// No bytes are path data for two lists of pieces.
@@ -19,4 +20,9 @@ pub fn path_data_means_one()
 /// No bytes are a document for two drawings.
 pub fn document_means_one()
     ensures { (bytes : List ℕ) (a b : Drawing) → IsDocument bytes a → IsDocument bytes b → a ≡ b }
+{}
+
+/// Whatever a document stands for fits the form.
+pub fn document_drawing_fits()
+    ensures { (bytes : List ℕ) (d : Drawing) → IsDocument bytes d → Fits d }
 {}

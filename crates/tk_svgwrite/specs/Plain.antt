@@ -26,6 +26,7 @@ use Rattle.tk_svg.specs.Document.{declaration, size_of}
 abbrev pub attribute_text : Attribute → List ℕ
 attribute_text a = codes " " ++ a.0 ++ codes "=\"" ++ a.1 ++ codes "\""
 
+-- one behind another
 abbrev pub attributes_text : List Attribute → List ℕ
 attributes_text attributes = flat_map attribute_text attributes
 
@@ -35,6 +36,7 @@ pub record Setting : Type 0 where
   pub initial : List ℕ
   pub value : List ℕ
 
+-- such a one
 abbrev pub setting : List ℕ → List ℕ → List ℕ → Setting
 setting name initial value = record { name = name; initial = initial; value = value }
 
@@ -62,6 +64,7 @@ piece_text (Line p) = codes "L" ++ numbers_text (numbers_of_point p)
 piece_text (Curve p q r) = codes "C" ++ numbers_text (numbers_of_point p ++ numbers_of_point q ++ numbers_of_point r)
 piece_text Close = codes "Z"
 
+-- the pieces, with nothing between them
 abbrev pub data_text : List Seg → List ℕ
 data_text segs = flat_map piece_text segs
 
@@ -69,6 +72,7 @@ data_text segs = flat_map piece_text segs
 abbrev pub hex_glyph : ℕ → ℕ
 hex_glyph d = if nat_lt d 10 then 48 + d else 55 + d
 
+-- a byte as two of them
 abbrev pub hex_text : ℕ → List ℕ
 hex_text byte = hex_glyph (byte / 16) ∷ hex_glyph (byte % 16) ∷ []
 
@@ -76,6 +80,7 @@ hex_text byte = hex_glyph (byte / 16) ∷ hex_glyph (byte % 16) ∷ []
 abbrev pub rgb_text : Rgb → List ℕ
 rgb_text rgb = codes "#" ++ hex_text rgb.r ++ hex_text rgb.g ++ hex_text rgb.b
 
+-- the words
 abbrev pub rule_text : Rule → List ℕ
 rule_text NonZero = codes "nonzero"
 rule_text EvenOdd = codes "evenodd"
@@ -90,6 +95,7 @@ join_text join.Miter = codes "miter"
 join_text join.Round = codes "round"
 join_text join.Bevel = codes "bevel"
 
+-- the lengths, or `none`
 abbrev pub dash_text : List ℤ → List ℕ
 dash_text [] = codes "none"
 dash_text (x ∷ xs) = numbers_text (x ∷ xs)
@@ -114,6 +120,7 @@ stroke_settings (Some stroke) =
     ∷ setting (codes "stroke-dashoffset") (codes "0") (text_of stroke.phase)
     ∷ []
 
+-- the data, and then what differs of the fill and of the stroke
 abbrev pub path_attributes : List Seg → Option Fill → Option Stroke → List Attribute
 path_attributes segs fill stroke = (codes "d", data_text segs) ∷ differing (fill_settings fill ++ stroke_settings stroke)
 
@@ -129,6 +136,7 @@ item_text (Label label) = []
 
 -- ---- the document
 
+-- how wide a frame is, and how high
 abbrev pub width_of : Frame → ℤ
 width_of frame = frame.right -ℤ frame.left
 
@@ -143,6 +151,7 @@ points_text w = text_of (size_of w) ++ codes "pt"
 abbrev pub box_text : Frame → List ℕ
 box_text frame = numbers_text (frame.left ∷ neg_ℤ frame.top ∷ width_of frame ∷ height_of frame ∷ [])
 
+-- the attributes of the outermost element, in order
 abbrev pub svg_attributes : Drawing → List Attribute
 svg_attributes d =
     (codes "xmlns", codes "http://www.w3.org/2000/svg")

@@ -17,6 +17,7 @@ pub record PointInRange (p : Point) : Type 0 where
   pub x : IsScaled p.x
   pub y : IsScaled p.y
 
+-- those of each point of a piece
 abbrev pub PieceInRange : Seg → Type 0
 PieceInRange (Move p) = PointInRange p
 PieceInRange (Line p) = PointInRange p
@@ -29,6 +30,7 @@ pub record RgbInRange (rgb : Rgb) : Type 0 where
   pub g : rgb.g < 256
   pub b : rgb.b < 256
 
+-- a fill, where there is one
 abbrev pub FillInRange : Option Fill → Type 0
 FillInRange None = Unit {0}
 FillInRange (Some fill) = RgbInRange fill.rgb
@@ -42,11 +44,12 @@ pub record StrokeNumbersInRange (stroke : Stroke) : Type 0 where
   pub dashes : AreDashes stroke.dash
   pub phase : IsScaled stroke.phase
 
+-- a stroke, where there is one
 abbrev pub StrokeInRange : Option Stroke → Type 0
 StrokeInRange None = Unit {0}
 StrokeInRange (Some stroke) = StrokeNumbersInRange stroke
 
--- labels are not written
+-- a path; labels are not written
 abbrev pub ItemInRange : Item → Type 0
 ItemInRange (Path segs fill stroke) = AllByRecursion PieceInRange segs × FillInRange fill × StrokeInRange stroke
 ItemInRange (Label label) = Unit {0}

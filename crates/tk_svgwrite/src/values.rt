@@ -1,4 +1,5 @@
-//! The values of attributes. Each call writes at the end of `out`, or runs out of memory.
+//! The values of attributes. Each call writes at the end of `out`, or runs out of memory. A clause `range`
+//! hands on what the type of a part says of its numbers, which the meaning of the document rests on.
 
 ghost use Rattle.std.specs.Prelude.{◌≡◌, ℕ, ◌+◌, ◌/◌, ◌%◌, ◌<◌, ◌∷◌, ◌++◌, [], OnOk, codes};
 ghost use Rattle.std.specs.List.{AllByRecursion};

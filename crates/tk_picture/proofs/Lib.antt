@@ -1,0 +1,9 @@
+pub mod Texts
+pub mod Decimals
+pub mod Repeated
+pub mod Ahead
+pub mod Numbers
+pub mod Loops
+pub mod Pictures
+pub mod Fitting
+pub mod Outcomes
