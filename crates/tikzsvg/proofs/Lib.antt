@@ -1,0 +1,4 @@
+pub mod Forms
+pub mod Saying
+pub mod Statuses
+pub mod Outcomes

@@ -1,0 +1,8 @@
+use Rattle.std.proofs.Common.{rules, ◌≡◌, IfOk, string_bytes, ℕ, ap, sym, append_assoc}
+use Rattle.std.specs.Prelude.{Result, IfOk}
+use Rattle.tikzsvg.specs.Lines as text
+use Rattle.tikzsvg.proofs.lines.fault_line.Goals as goal
+
+pub returns : goal.returns
+unfolding text.placed_line
+returns c = rw (← c.code_name-name.ensures) (simp append_assoc (c.format.ensures.ok))

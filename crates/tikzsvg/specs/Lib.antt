@@ -1,0 +1,5 @@
+pub mod Words
+pub mod Lines
+pub mod Run
+pub mod Refused
+pub mod Answers

@@ -1,0 +1,19 @@
+-- What the words of the command line ask for.
+use Rattle.std.specs.Prelude.{ℕ, Bool, true, false, ◌&&◌, not, ◌==◌, if◌then◌else◌, List, [], ◌∷◌, Option, Some, None, codes}
+use Rattle.std.specs.Str.{bytes_eq}
+
+-- what is asked for
+pub data Command : Type 0 where
+  -- the SVG document of a file
+  Render : List ℕ → Command
+
+-- a name of a file: not empty, and with a `-` in front only where it is `-` alone, which is standard input
+abbrev pub is_file_name : List ℕ → Bool
+is_file_name [] = false
+is_file_name (c ∷ []) = true
+is_file_name (c ∷ d ∷ cs) = not (c == 45)
+
+-- `render FILE` asks for a document; all other words are faulty
+unfoldable pub command_of : List (List ℕ) → Option Command
+command_of (word ∷ file ∷ []) = if bytes_eq word (codes "render") && is_file_name file then Some (Render file) else None
+command_of _ = None

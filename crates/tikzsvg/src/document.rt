@@ -1,0 +1,102 @@
+//! The document of a file.
+
+ghost use Rattle.std.specs.Prelude.{◌≡◌, ◌≤◌, length, take, IfOk, IfErr};
+ghost use Rattle.std.specs.Str.{IsUtf8};
+ghost use Rattle.tk_io.specs.Shelf.{Counts};
+ghost use Rattle.tk_token.specs.Refusals.{OnFault};
+ghost use Rattle.std.specs.List.{AllByRecursion};
+ghost use Rattle.tk_svg.specs.Fitting.{Fits};
+ghost use Rattle.tk_svgwrite.specs.Plain.{IsPathItem};
+ghost use Rattle.tikzsvg.specs.Run.{Draws};
+ghost use Rattle.tikzsvg.specs.Refused.{Refuses, IsDocumentOf, unread, undrawn};
+ghost use Rattle.tikzsvg.specs.declared.document.NoDocument.TheVariants.{OutOfMemory};
+
+use crate::lines::Placed;
+use std::alloc::{AllocError, Global};
+use tk_io::{ReadRefusal, Shelf, read_all};
+use tk_item::Drawing;
+use tk_picture::compile;
+use tk_svgwrite::write_svg;
+use tk_token::{Refusal, place};
+
+/// Why a file gives no document.
+#[derive(Clone, Copy, Debug, PartialEq, Eq)]
+pub enum NoDocument {
+    /// The shelf failed.
+    ReadFault,
+    /// The file has more than 16,777,216 bytes.
+    TooLong,
+    /// The first fault of the source.
+    Fault(Placed),
+    /// No memory was left.
+    OutOfMemory,
+}
+
+impl From<AllocError> for NoDocument {
+    ghost from_gives = { λ _ e. e ≡ OutOfMemory };
+
+    fn from(_: AllocError) -> Self {
+        NoDocument::OutOfMemory
+    }
+}
+
+impl From<ReadRefusal> for NoDocument {
+    ghost from_gives = { λ refusal e. e ≡ unread refusal };
+
+    fn from(refusal: ReadRefusal) -> Self {
+        match refusal {
+            ReadRefusal::Failed => NoDocument::ReadFault,
+            ReadRefusal::TooLong => NoDocument::TooLong,
+            ReadRefusal::OutOfMemory => NoDocument::OutOfMemory,
+        }
+    }
+}
+
+/// The document of a file's drawing, whole in memory. The file's bytes are given back by then.
+pub fn document_of<H: Shelf>(
+    alloc: Global,
+    shelf: &mut H,
+    file: &str,
+) -> Result<Vec<u8>, NoDocument>
+    ensures document { IfOk result (λ v. IsDocumentOf file.now (H.meaning shelf.old) (H.meaning shelf.new) v.items) }
+    ensures refused { IfErr result (λ e. Refuses file.now (H.meaning shelf.old) (H.meaning shelf.new) e) }
+    ensures counts { Counts file.now (H.meaning shelf.old) (H.meaning shelf.new) }
+{
+    let drawing = drawing_of(alloc, shelf, file)?;
+    Ok(write_svg(alloc, &drawing)?)
+}
+
+/// The drawing of a file.
+fn drawing_of<H: Shelf>(alloc: Global, shelf: &mut H, file: &str) -> Result<Drawing, NoDocument>
+    ensures drawing { IfOk result (λ d. Draws file.now (H.meaning shelf.old) (H.meaning shelf.new) d) }
+    ensures fits { IfOk result Fits }
+    ensures paths { IfOk result (λ d. AllByRecursion IsPathItem d.items) }
+    ensures refused { IfErr result (λ e. Refuses file.now (H.meaning shelf.old) (H.meaning shelf.new) e) }
+    ensures counts { Counts file.now (H.meaning shelf.old) (H.meaning shelf.new) }
+{
+    let source = read_all(alloc, shelf, file)?;
+    match compile(alloc, source.as_slice()) {
+        Ok(drawing) => Ok(drawing),
+        Err(refusal) => Err(with_place(source.as_slice(), refusal)),
+    }
+}
+
+/// A refusal of a source, with the line and the column of its fault.
+fn with_place(source: &[u8], refusal: Refusal) -> NoDocument
+    requires short { length source.now ≤ 16777216 }
+    requires place { OnFault refusal (λ f. f.at ≤ length source.now) }
+    requires text { OnFault refusal (λ f. IsUtf8 (take f.at source.now)) }
+    ensures { result ≡ undrawn source.now refusal }
+{
+    match refusal {
+        Refusal::Fault(fault) => {
+            let (line, column) = place(source, fault.at);
+            NoDocument::Fault(Placed {
+                code: fault.code,
+                line,
+                column,
+            })
+        }
+        Refusal::OutOfMemory => NoDocument::OutOfMemory,
+    }
+}

@@ -1,0 +1,42 @@
+//! The lines that `err` takes.
+
+ghost use Rattle.std.specs.Prelude.{◌≡◌, IfOk, string_bytes};
+ghost use Rattle.tikzsvg.specs.Lines as text;
+
+use std::alloc::{AllocError, Global};
+use tk_token::Code;
+
+/// A fault, with its line and column.
+#[derive(Clone, Copy, Debug, PartialEq, Eq)]
+pub struct Placed {
+    pub code: Code,
+    pub line: u32,
+    pub column: u32,
+}
+
+fn code_name(code: Code) -> &'static str
+    ensures { result.now ≡ text.name_of code }
+{
+    match code {
+        Code::TooLarge => "TooLarge",
+        Code::TooLong => "TooLong",
+        Code::Unbuilt => "Unbuilt",
+    }
+}
+
+/// `FILE:LINE:COLUMN: FAULT`, ended by LF.
+#[tactic(auto, using(std::proofs::Common::append_assoc), unfolding(crate::specs::Lines::placed_line))]
+pub fn fault_line(alloc: Global, file: &str, fault: Placed) -> Result<String, AllocError>
+    ensures { IfOk result (λ line. string_bytes line ≡ text.placed_line file.now fault.line fault.column fault.code) }
+{
+    let Placed { code, line, column } = fault;
+    let name = code_name(code);
+    format!(in alloc; "{file}:{line}:{column}: {name}\n")
+}
+
+/// `FILE: ReadFault`, ended by LF.
+pub fn read_fault_line(alloc: Global, file: &str) -> Result<String, AllocError>
+    ensures { IfOk result (λ line. string_bytes line ≡ text.read_fault_line file.now) }
+{
+    format!(in alloc; "{file}: ReadFault\n")
+}

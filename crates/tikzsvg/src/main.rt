@@ -1,0 +1,30 @@
+//! tikzsvg: compiles TikZ pictures to SVG documents.
+//!
+//! [`program::run`] is the whole program over any shelf of files and any two sinks. What stands here
+//! hands it those of the host.
+#![tactic(auto)]
+
+mod document;
+mod lines;
+mod program;
+#[cfg(test)]
+mod rows;
+mod words;
+
+use program::{run, without_words};
+use std::process::ExitCode;
+use tk_io::{ErrSink, FileShelf, OutSink};
+use words::host_words;
+
+fn main(rt: HostRuntime) -> ExitCode {
+    let mut err = ErrSink::new(rt.stderr());
+    let status = match host_words(&rt) {
+        Ok(words) => {
+            let mut shelf = FileShelf::new(&rt);
+            let mut out = OutSink::new(&rt);
+            run(rt.alloc(), words.as_slice(), &mut shelf, &mut out, &mut err)
+        }
+        Err(cause) => without_words(cause, &mut err),
+    };
+    ExitCode::from(status)
+}
