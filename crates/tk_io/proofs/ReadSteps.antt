@@ -11,9 +11,9 @@ use Rattle.std.proofs.Math.Seq.{take-add, drop-drop}
 use mathlib.Core.Path.{fun_ext}
 use Rattle.tk_io.specs.declared.Failed.{Failed}
 use Rattle.tk_io.specs.declared.reading.ReadRefusal.{ReadRefusal}
-use Rattle.tk_io.specs.declared.reading.ReadRefusal.TheVariants.{TooLong, OutOfMemory}
+use Rattle.tk_io.specs.declared.reading.ReadRefusal.TheVariants.{OutOfMemory}
 use Rattle.tk_io.specs.declared.reading.ReadRefusal.TheVariants.{Failed as ShelfFailed}
-use Rattle.tk_io.specs.Shelf.{Shelved, Counts, Opens, Reads, HandsOut, dash, with_input}
+use Rattle.tk_io.specs.Shelf.{Shelved, Counts, Reads, HandsOut, dash, with_input}
 use Rattle.tk_io.specs.declared.reading.TheConstants.{MOST_BYTES}
 use Rattle.tk_io.specs.Reading.{ReadsAll}
 use Rattle.tk_io.proofs.Told.{told_by, told_at}
@@ -55,20 +55,6 @@ with_input-alike left now holds alike = fun_ext (λ n. by_test n (bytes_eq n das
     by_test : (n : List ℕ) (b : Bool) → bytes_eq n dash ≡ b → (if b then left else now n) ≡ (if b then left else holds n)
     by_test n true e = refl
     by_test n false e = alike n (λ (same : n ≡ dash). false≢true (sym e ∙ subst (λ (m : List ℕ). bytes_eq m dash ≡ true) (sym same) refl))
-
--- after the open nothing was read
-pub SoFar-opened : (name : List ℕ) (old new : Shelved) → Opens name old new (Ok tt) → SoFar name old [] new
-SoFar-opened name old new h = record {
-  counts = h.counts;
-  is_open = h.opened;
-  taken = h.taken;
-  front = told_by old.holds (λ holds. [] ≡ take 0 (unwrap_or (holds name) [])) (λ holds e. refl);
-  left = h.left;
-  there = told_by old.holds (λ holds. holds name ≡ None → old.sure ≡ false → ⊥) (λ holds e gone unsure. false≢true (told_at old.holds (λ holds. holds name ≡ None → old.sure ≡ false → false ≡ true) holds e h.missing gone unsure));
-  holds = λ _. h.holds;
-  others = told_by old.holds (λ holds. IsSomeAnd new.holds (λ now. Alike now holds)) (λ holds e.
-      subst (λ (o : Option Holds). IsSomeAnd o (λ now. Alike now holds)) (sym (h.holds ∙ e)) (λ n _. refl));
-}
 
 -- what a call on a name does to the counts, after calls on the same name
 Counts-more : (name : List ℕ) (old mid new : Shelved) → Counts name old mid → IfSome old.holds (λ holds. IsSomeAnd mid.holds (λ now. Alike now holds)) → (name ≢ dash → mid.holds ≡ old.holds) → Counts name mid new → Counts name old new
@@ -220,32 +206,6 @@ ReadsAll-no_memory name old now bytes so = record {
   missing = there_at name old now bytes (Err OutOfMemory ≡ Err ShelfFailed) so;
   too_many = λ e. cc;
   too_long = λ e. cc;
-  long = refused old name;
-  holds = so.holds;
-  input = λ _. tt;
-  others = so.others;
-}
-
--- the file went on after the last byte that an input may have
-pub ReadsAll-too_long : (name : List ℕ) (old now : Shelved) (bytes : List ℕ) → SoFar name old bytes now → length bytes ≡ MOST_BYTES + 1 → ReadsAll name old now (Err TooLong)
-ReadsAll-too_long name old now bytes so long = record {
-  counts = so.counts;
-  bytes = tt;
-  short = tt;
-  taken = tt;
-  end = tt;
-  is_open = tt;
-  failed = λ e. cc;
-  sure = λ _ e. cc;
-  missing = there_at name old now bytes (Err TooLong ≡ Err ShelfFailed) so;
-  too_many = λ _. so.taken ∙ long;
-  too_long = λ _. told_by old.holds (λ holds. MOST_BYTES < length (unwrap_or (holds name) [])) (λ holds e.
-      omega (
-        arith,
-        long,
-        length-take (length bytes) (unwrap_or (holds name) []),
-        ap length (told_at old.holds (λ holds. bytes ≡ take (length bytes) (unwrap_or (holds name) [])) holds e so.front),
-      ));
   long = refused old name;
   holds = so.holds;
   input = λ _. tt;
