@@ -1,5 +1,5 @@
 -- Which words ask for what.
-use Rattle.std.proofs.Common.{◌≡◌, ◌≢◌, ℕ, Bool, true, false, List, [], ◌∷◌, length, get_or, Some, None, refl, sym, ap, map, arith, ◌∙◌}
+use Rattle.std.proofs.Common.{◌≡◌, ◌≢◌, ℕ, true, false, List, [], ◌∷◌, length, get_or, Some, None, refl, map, arith}
 use Rattle.std.specs.Prelude.{codes, ◌&&◌}
 use Rattle.std.specs.Str.{bytes_eq}
 use Rattle.tikzsvg.specs.Words.{Render, is_file_name, command_of}

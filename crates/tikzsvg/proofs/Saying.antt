@@ -1,17 +1,15 @@
 -- What was said, and the answers that it makes.
-use Rattle.std.proofs.Common.{◌≡◌, ◌⊎◌, inl, inr, ℕ, ◌<◌, List, length, take, Result, Ok, Err, refl, sym, subst, ap}
+use Rattle.std.proofs.Common.{◌≡◌, inl, inr, ℕ, ◌<◌, List, length, take, Result, Ok, Err, sym, subst}
 use Rattle.tk_io.specs.Sink.{Sunk, Takes, WritesAll}
-use Rattle.tk_io.specs.Shelf.{Shelved}
 use Rattle.tk_io.specs.declared.Failed.{Failed}
-use Rattle.tk_io.specs.Causes.{Rose}
 use Rattle.tikzsvg.specs.declared.document.NoDocument.{NoDocument}
 use Rattle.tikzsvg.specs.declared.document.NoDocument.TheVariants as causes
 use Rattle.tikzsvg.specs.declared.program.Status.{Status}
 use Rattle.tikzsvg.specs.declared.program.Status.TheVariants as statuses
 use Rattle.tikzsvg.specs.Lines.{placed_line}
-use Rattle.tikzsvg.specs.Run.{World, Says, whole, part, Done, HasFault, IsTooLong, ReadFails, WriteFails, LacksMemory}
-use Rattle.tikzsvg.specs.Refused.{Refuses, IsDocumentOf, BreaksAt}
-use Rattle.tikzsvg.specs.Answers.{Renders, done, fault, too_long, read_fault, write_fault, out_of_memory, Stops, Delivers, Reports, line_of_cause, status_of_cause}
+use Rattle.tikzsvg.specs.Run.{World, Says, whole, part}
+use Rattle.tikzsvg.specs.Refused.{Refuses, IsDocumentOf}
+use Rattle.tikzsvg.specs.Answers.{Renders, done, fault, too_long, read_fault, write_fault, out_of_memory, Delivers, Reports, line_of_cause, status_of_cause}
 
 -- what writing a line says
 pub says_from : (line : List ℕ) (old new : Sunk) (r : Result (Unit {0}) Failed) → WritesAll line old new r → Says old new line

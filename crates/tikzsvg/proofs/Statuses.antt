@@ -1,5 +1,5 @@
 -- What the status of an answer tells.
-use Rattle.std.proofs.Common.{◌≡◌, ◌≢◌, ◌⊎◌, inl, inr, ◌↔◌, ℕ, ◌<◌, ◌≤◌, List, [], length, Option, Some, None, Result, Ok, Err, IfSome, unwrap_or, refl, sym, subst, ◌∙◌, arith}
+use Rattle.std.proofs.Common.{◌≡◌, ◌≢◌, ◌⊎◌, inl, inr, ℕ, ◌<◌, ◌≤◌, List, [], length, Some, None, Result, Ok, Err, IfSome, unwrap_or, refl, sym, subst, ◌∙◌, arith}
 use denote.Enum.Declared.{tag_of}
 use Rattle.tk_token.specs.declared.Fault.{Fault}
 use Rattle.tk_item.specs.declared.Drawing.{Drawing}
@@ -11,7 +11,7 @@ use Rattle.tk_picture.specs.Outcome.{IsOutcome}
 use Rattle.tikzsvg.specs.declared.program.Status.{Status}
 use Rattle.tikzsvg.specs.declared.program.Status.TheVariants as statuses
 use Rattle.tikzsvg.specs.contracts.program.Status.{the_type}
-use Rattle.tikzsvg.specs.Words.{Command, Render, command_of}
+use Rattle.tikzsvg.specs.Words.{Render, command_of}
 use Rattle.tikzsvg.specs.Lines.{fault_line, too_long_line}
 use Rattle.tikzsvg.specs.Run.{World, Holds, WasRead, WasTooLong, Says, Done, HasFault, IsTooLong, IsUsage, ReadFails, WriteFails, LacksMemory, Asks, most_bytes, DidNotFail, Runs}
 use Rattle.tikzsvg.specs.Answers.{Renders, done, fault, too_long, read_fault, write_fault, out_of_memory, Answers, renders, usage}

@@ -2,7 +2,6 @@
 use Rattle.std.specs.Prelude.{◌≡◌, ◌⊎◌, ℕ, ◌<◌, List, length, take, Some, None}
 use Rattle.tk_io.specs.Causes.{Rose}
 use Rattle.tk_io.specs.Sink.{Sunk, Takes}
-use Rattle.tikzsvg.specs.declared.lines.Placed.{Placed}
 use Rattle.tikzsvg.specs.declared.document.NoDocument.{NoDocument}
 use Rattle.tikzsvg.specs.declared.document.NoDocument.TheVariants as causes
 use Rattle.tikzsvg.specs.declared.program.Status.{Status}

@@ -23,14 +23,18 @@ fault_line file source f = placed_line file (line_of source f.at) (column_of sou
 abbrev pub too_long_line : List ℕ → List ℕ
 too_long_line file = placed_line file 1 1 TooLong
 
+-- the shelf failed at the file
 abbrev pub read_fault_line : List ℕ → List ℕ
 read_fault_line file = file ++ codes ": ReadFault\n"
 
+-- the words ask for nothing
 abbrev pub usage_line : List ℕ
 usage_line = codes "tikzsvg: Usage\n"
 
+-- `out` failed
 abbrev pub write_fault_line : List ℕ
 write_fault_line = codes "tikzsvg: WriteFault\n"
 
+-- no memory was left
 abbrev pub out_of_memory_line : List ℕ
 out_of_memory_line = codes "tikzsvg: OutOfMemory\n"

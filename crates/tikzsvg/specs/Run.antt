@@ -8,7 +8,7 @@ use Rattle.tk_io.specs.Sink.{Sunk, Takes}
 use Rattle.tk_svg.specs.Document.{IsDocument}
 use Rattle.tk_svgwrite.specs.Plain.{document_text}
 use Rattle.tk_picture.specs.Outcome.{IsOutcome}
-use Rattle.tikzsvg.specs.Words.{Command, Render, command_of}
+use Rattle.tikzsvg.specs.Words.{Render, command_of}
 use Rattle.tikzsvg.specs.Lines.{fault_line, too_long_line, read_fault_line, usage_line, write_fault_line, out_of_memory_line}
 
 -- the most bytes that an input may have
@@ -21,6 +21,7 @@ pub record World : Type 0 where
   pub out : Sunk
   pub err : Sunk
 
+-- the world of these three
 abbrev pub world : Shelved → Sunk → Sunk → World
 world shelf out err = record { shelf = shelf; out = out; err = err }
 
@@ -44,7 +45,7 @@ pub record WasTooLong (file : List ℕ) (before after : Shelved) : Type 0 where
   pub taken : after.taken ≡ most_bytes + 1
   pub long : IfSome before.holds (λ holds. most_bytes < length (unwrap_or (holds file) []))
 
--- the file was read, and is this drawing
+-- the file was read, and draws this
 pub record Draws (file : List ℕ) (before after : Shelved) (drawing : Drawing) : Type 0 where
   pub source : List ℕ
   pub read : WasRead file source before after

@@ -1,15 +1,15 @@
 -- What each definition leaves: fewer tokens, no place of which lies past a bound, as none of its faults does.
-use Rattle.std.proofs.Common.{◌≡◌, ℕ, zero, suc, ◌+◌, ◌<◌, ◌≤◌, Bool, true, false, cond, List, [], ◌∷◌, ◌++◌, length, take, drop, max, Result, Ok, Err, ℤ, pos, refl, sym, ap, subst, ◌∙◌, arith, one-add, length-drop, codes}
+use Rattle.std.proofs.Common.{◌≡◌, ℕ, zero, suc, ◌<◌, ◌≤◌, Bool, true, false, cond, List, [], ◌∷◌, ◌++◌, length, take, drop, Ok, Err, ℤ, pos, arith, length-drop, codes}
 use Rattle.std.specs.List.{AllByRecursion, prefix_len, list_any}
 use Rattle.std.specs.Prelude.{nat_le}
 use Rattle.tk_num.specs.Number.{is_scaled, product, decimal_value}
 use Rattle.tk_item.specs.declared.Seg.{Seg}
 use Rattle.tk_item.specs.declared.Point.{Point}
 use Rattle.tk_token.specs.declared.Fault.{Fault}
-use Rattle.tk_token.specs.declared.Code.TheVariants.{TooLarge, Unbuilt}
+use Rattle.tk_token.specs.declared.Code.TheVariants.{Unbuilt}
 use Rattle.tk_token.specs.Answers.{Answer, ◌>>=◌, fault}
 use Rattle.tk_token.specs.Token.{Sign, Token}
-use Rattle.tk_picture.specs.Form.{is_char, is_digit, is_space, is_open, is_close, begins, place_of, unbuilt, after_spaces, expected, next, after_optional, after_text, after_name, Read, Numeral, Coordinate, decimal_len, unsigned, numeral, number_of, coordinate, centimetres, point_of, point}
+use Rattle.tk_picture.specs.Form.{is_char, is_digit, is_space, is_open, is_close, begins, place_of, after_spaces, expected, next, after_optional, after_text, after_name, Read, Numeral, Coordinate, decimal_len, unsigned, numeral, number_of, coordinate, centimetres, point_of, point}
 use Rattle.tk_item.specs.declared.Seg.TheVariants.{Close}
 use Rattle.tk_picture.specs.Repeat.{Step, More, Ended, go_on}
 use Rattle.tk_picture.specs.Paths.{Going, path_end, line, cycle, operation, path_part, operations}

@@ -1,7 +1,7 @@
 -- The digits and the point in front are a decimal.
-use Rattle.std.proofs.Common.{◌≡◌, ℕ, zero, suc, ◌+◌, ◌<◌, ◌≤◌, Bool, true, false, cond, ◌&&◌, ◌||◌, not, ltb, eqb, List, [], ◌∷◌, length, take, drop, map, refl, sym, ap, subst, ◌∙◌, arith, one-add, rules}
+use Rattle.std.proofs.Common.{◌≡◌, ℕ, suc, ◌+◌, ◌<◌, Bool, true, false, cond, ◌&&◌, ◌||◌, ltb, List, [], ◌∷◌, length, take, drop, map, refl, sym, ap, subst, ◌∙◌, arith, one-add}
 use Rattle.std.specs.Char.{is_ascii_digit}
-use Rattle.std.specs.List.{list_any, list_all, prefix_len, position_or_len, before_first, after_first}
+use Rattle.std.specs.List.{list_any, list_all}
 use Rattle.std.proofs.lemmas.Bool.{lt-ltb, eqb-true}
 use Rattle.std.proofs.lemmas.List.{drop-map, take-map}
 use Rattle.std.proofs.Common.{suc-add, zero-add}
@@ -9,7 +9,7 @@ use Rattle.tk_num.specs.Number.{is_point, is_decimal, whole_digits, part_digits}
 use Rattle.tk_token.specs.declared.Tok.{Tok}
 use Rattle.tk_picture.specs.Reading.{tokens_of}
 use Rattle.tk_token.specs.Token.{token_of, Sign, A_char, A_word, A_symbol, Opens, Closes, A_param, An_arg, A_space, Token}
-use Rattle.tk_picture.specs.Form.{is_char, is_digit, mark_of, begins, digits_len, part_len, decimal_len}
+use Rattle.tk_picture.specs.Form.{is_char, is_digit, mark_of, digits_len, part_len, decimal_len}
 
 pub ruleset split_map = (drop-map, take-map)
 
@@ -17,7 +17,6 @@ module _ {X Y : Type 0} (p : Y → Bool) (f : X → Y) where
   pub list_any-map : (xs : List X) → list_any p (map f xs) ≡ list_any (λ x. p (f x)) xs
   list_any-map [] = refl
   list_any-map (x ∷ xs) = ap (λ (b : Bool). p (f x) || b) (list_any-map xs)
-
 
 mark_char : (c : ℕ) (b : Bool) → is_ascii_digit c ≡ b → is_ascii_digit (cond (is_ascii_digit c) c 46) ≡ is_ascii_digit c
 mark_char c true h = rw h (rw h refl)
@@ -33,7 +32,6 @@ mark_digit Closes = refl
 mark_digit A_param = refl
 mark_digit (An_arg n) = refl
 mark_digit A_space = refl
-
 
 -- a digit is no point
 digit_no_point : (c : ℕ) → is_ascii_digit c ≡ true → is_point c ≡ false

@@ -1,6 +1,5 @@
 -- The runs of parts: what each part leaves is less, so that a run is one part and the run of what it leaves.
-use Rattle.std.proofs.Common.{◌≡◌, ℕ, zero, suc, ◌+◌, ◌<◌, ◌≤◌, List, [], ◌∷◌, length, Result, Ok, Err, refl, sym, ap, subst, ◌∙◌, arith}
-use Rattle.std.specs.List.{AllByRecursion}
+use Rattle.std.proofs.Common.{◌≡◌, ℕ, ◌+◌, ◌<◌, ◌≤◌, List, [], ◌∷◌, length, Ok, subst, ◌∙◌, arith}
 use Rattle.tk_item.specs.declared.Seg.{Seg}
 use Rattle.tk_token.specs.declared.Fault.{Fault}
 use Rattle.tk_token.specs.declared.Refusal.{Refusal}
@@ -9,10 +8,10 @@ use Rattle.tk_token.specs.Refusals.{Fails}
 use Rattle.tk_token.specs.Answers.{Answer, ◌>>=◌}
 use Rattle.tk_token.specs.Token.{Token}
 use Rattle.tk_picture.specs.Form.{Read}
-use Rattle.tk_picture.specs.Repeat.{Step, More, Ended, go_on, until_end}
-use Rattle.tk_picture.specs.Paths.{Going, Halfway, Drawn, path_part, operations, picture_part, paths}
+use Rattle.tk_picture.specs.Repeat.{More, Ended, go_on}
+use Rattle.tk_picture.specs.Paths.{Going, path_part, operations}
 use Rattle.tk_picture.proofs.Repeated.{Shortens, until_end_is, until_more, until_ended, until_failed}
-use Rattle.tk_picture.proofs.Ahead.{Holds, Within, Early, Ahead, Fewer, PathPart, path_part_fewer}
+use Rattle.tk_picture.proofs.Ahead.{Holds, Within, Early, Ahead, PathPart, path_part_fewer}
 
 module _ {A : Type 0} where
   pub holds_at : (P : A → Type 0) (F : Fault → Type 0) (m : Answer A) (a : A) → m ≡ Ok a → Holds P F m → P a

@@ -1,5 +1,5 @@
 -- What a reading tells of a source.
-use Rattle.std.proofs.Common.{◌≡◌, ℕ, ◌<◌, ◌≤◌, List, [], ◌∷◌, length, take, Option, Some, None, Result, Ok, Err, IfOk, IfErr, refl, sym, subst, arith}
+use Rattle.std.proofs.Common.{◌≡◌, ℕ, ◌<◌, ◌≤◌, List, [], ◌∷◌, length, take, Option, Some, None, Result, Ok, Err, IfOk, IfErr, refl, ap, subst, arith}
 use Rattle.std.specs.List.{AllByRecursion}
 use Rattle.std.specs.Str.{IsUtf8}
 use Rattle.tk_item.specs.declared.Drawing.{Drawing}
@@ -11,6 +11,8 @@ use Rattle.tk_token.specs.Cutting.{fault_in, Tokens}
 use Rattle.tk_token.specs.Token.{Token}
 use Rattle.tk_token.proofs.Ascii.{text_before_fault, text_without_fault}
 use Rattle.tk_token.proofs.Told.{places_within}
+use Rattle.tk_token.proofs.Total.{total}
+use Rattle.tk_token.proofs.Unique.{tokens_same}
 use Rattle.tk_picture.specs.Outcome.{IsOutcome, unknown_byte, of_tokens}
 use Rattle.tk_picture.specs.Paths.{document}
 use Rattle.tk_picture.proofs.Pictures.{fault_within}
@@ -51,3 +53,23 @@ module _ (source : List ℕ) (ts : List Token) (known : fault_in source ≡ None
   fault_text (Ok d) = tt
   fault_text (Err (refusals.Fault f)) = text_without_fault source f.at known
   fault_text (Err refusals.OutOfMemory) = tt
+
+-- ---- laws
+
+of_known : (source : List ℕ) → fault_in source ≡ None → (outcome : Result Drawing Fault) × IsOutcome source outcome
+of_known source known = let cut = total (length source) source in (document (length source) cut.0, of_tokens known cut.1)
+
+some_by : (source : List ℕ) (o : Option Fault) → fault_in source ≡ o → (outcome : Result Drawing Fault) × IsOutcome source outcome
+some_by source (Some f) e = (Err f, unknown_byte e)
+some_by source None e = of_known source e
+
+-- each source has an outcome
+pub some_outcome : (source : List ℕ) → (outcome : Result Drawing Fault) × IsOutcome source outcome
+some_outcome source = some_by source (fault_in source) refl
+
+-- and only one
+pub one_outcome : (source : List ℕ) (a b : Result Drawing Fault) → IsOutcome source a → IsOutcome source b → a ≡ b
+one_outcome source a b (unknown_byte e) (unknown_byte f) = cc
+one_outcome source a b (unknown_byte e) (of_tokens f u) = absurd cc
+one_outcome source a b (of_tokens e t) (unknown_byte f) = absurd cc
+one_outcome source a b (of_tokens e t) (of_tokens f u) = ap (document (length source)) (tokens_same t u)

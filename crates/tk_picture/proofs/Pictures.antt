@@ -1,7 +1,6 @@
 -- Pictures: what their parts leave, and where a document's fault stands.
-use Rattle.std.proofs.Common.{◌≡◌, ℕ, zero, suc, ◌+◌, ◌<◌, ◌≤◌, Bool, true, false, cond, List, [], ◌∷◌, length, Option, Some, None, Result, Ok, Err, refl, sym, ap, subst, ◌∙◌, arith, codes}
+use Rattle.std.proofs.Common.{◌≡◌, ℕ, zero, suc, ◌<◌, ◌≤◌, List, [], ◌∷◌, length, None, Ok, Err, subst, ◌∙◌, arith, codes}
 use Rattle.std.specs.List.{AllByRecursion}
-use Rattle.tk_item.specs.declared.Seg.{Seg}
 use Rattle.tk_item.specs.declared.Seg.TheVariants.{Move}
 use Rattle.tk_item.specs.declared.Drawing.{Drawing}
 use Rattle.tk_token.specs.declared.Fault.{Fault}
@@ -12,10 +11,10 @@ use Rattle.tk_token.specs.Answers.{Answer, ◌>>=◌}
 use Rattle.tk_token.specs.Token.{Token}
 use Rattle.tk_picture.specs.Form.{is_word, begins, after_spaces, expected, after_name, Read, point}
 use Rattle.tk_item.specs.declared.Point.{Point}
-use Rattle.tk_picture.specs.Repeat.{Step, More, Ended, go_on, until_end}
-use Rattle.tk_picture.specs.Paths.{Going, Halfway, Drawn, operations, path, with_path, draw, picture_end, picture_part, paths, drawing_of, nothing_after, document}
+use Rattle.tk_picture.specs.Repeat.{Step, More, Ended, go_on}
+use Rattle.tk_picture.specs.Paths.{Halfway, Drawn, path, draw, picture_end, picture_part, paths, drawing_of, nothing_after, document}
 use Rattle.tk_picture.proofs.Repeated.{Shortens, until_end_is, until_more, until_ended, until_failed}
-use Rattle.tk_picture.proofs.Ahead.{Holds, holds_then, holds_if, holds_weaker, Within, Early, Ahead, Fewer, Behind, fewer_ahead, spaces_ahead, expected_fewer, name_fewer, point_fewer, operations_fewer}
+use Rattle.tk_picture.proofs.Ahead.{Holds, holds_then, holds_if, holds_weaker, Within, Ahead, Fewer, Behind, fewer_ahead, spaces_ahead, expected_fewer, name_fewer, point_fewer, operations_fewer}
 use Rattle.tk_picture.proofs.Loops.{holds_at, bound_of, bound_above, all_ahead, operations_are}
 
 module _ (end bound : ℕ) (below : end ≤ bound) where

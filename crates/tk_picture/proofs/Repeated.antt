@@ -1,5 +1,5 @@
 -- Parts that follow one another, one at a time.
-use Rattle.std.proofs.Common.{◌≡◌, ℕ, ◌<◌, Result, Ok, Err, refl, sym, ap, ◌∙◌}
+use Rattle.std.proofs.Common.{◌≡◌, ℕ, ◌<◌, Ok, Err, refl, ap, ◌∙◌}
 use Rattle.tk_token.specs.declared.Code.TheVariants.{Unbuilt}
 use Rattle.tk_token.specs.declared.Fault.{Fault}
 use Rattle.tk_token.specs.Answers.{Answer, ◌>>=◌, fault}

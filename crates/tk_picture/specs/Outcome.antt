@@ -1,5 +1,7 @@
 -- What a source stands for.
-use Rattle.std.specs.Prelude.{◌≡◌, ℕ, List, length, Some, None, Result, Ok, Err}
+use Rattle.std.specs.Prelude.{◌≡◌, ℕ, List, length, Some, None, Result, Err}
+use Rattle.tk_item.specs.declared.Item.{Item}
+use Rattle.tk_item.specs.declared.Item.TheVariants.{Path, Label}
 use Rattle.tk_item.specs.declared.Drawing.{Drawing}
 use Rattle.tk_token.specs.declared.Fault.{Fault}
 use Rattle.tk_token.specs.Token.{Token}
@@ -10,3 +12,8 @@ use Rattle.tk_picture.specs.Paths.{document}
 pub data IsOutcome (source : List ℕ) : Result Drawing Fault → Type 0 where
   unknown_byte : {fault : Fault} → fault_in source ≡ Some fault → IsOutcome source (Err fault)
   of_tokens : {toks : List Token} → fault_in source ≡ None → Tokens (length source) source toks → IsOutcome source (document (length source) toks)
+
+-- an item that is a path
+abbrev pub IsPath : Item → Type 0
+IsPath (Path segs fill stroke) = Unit {0}
+IsPath (Label label) = ⊥

@@ -1,6 +1,5 @@
 -- What a path and a picture draw.
-use Rattle.std.specs.Prelude.{ℕ, if◌then◌else◌, List, [], ◌∷◌, ◌++◌, length, Option, Some, None, Result, Ok, Err, pos, codes, unwrap_or}
-use Rattle.tk_item.specs.declared.Rgb.{Rgb}
+use Rattle.std.specs.Prelude.{ℕ, if◌then◌else◌, List, [], ◌∷◌, ◌++◌, length, Option, Some, None, Ok, pos, codes, unwrap_or}
 use Rattle.tk_item.specs.declared.Cap.TheVariants.{Butt}
 use Rattle.tk_item.specs.declared.Join.TheVariants.{Miter}
 use Rattle.tk_item.specs.declared.Stroke.{Stroke}

@@ -1,22 +1,19 @@
 -- What the reader's calls tell of the definitions.
 use Rattle.std.specs.Prelude.{◌≡◌, ℕ, List, map, Result, Ok, Err}
+use Rattle.tk_item.specs.declared.Seg.{Seg}
 use Rattle.tk_token.specs.declared.Fault.{Fault}
 use Rattle.tk_token.specs.declared.Tok.{Tok}
 use Rattle.tk_token.specs.Answers.{Answer}
 use Rattle.tk_token.specs.Token.{Token, token_of}
-use Rattle.tk_picture.specs.declared.coordinate.Numeral as written
-use Rattle.tk_picture.specs.declared.coordinate.Coordinate as coordinates
-use Rattle.tk_item.specs.declared.Seg.{Seg}
-use Rattle.tk_picture.specs.declared.path.Step as parts
+use Rattle.tk_picture.specs.declared.coordinate.Numeral as read_numeral
+use Rattle.tk_picture.specs.declared.coordinate.Coordinate as read_coordinate
+use Rattle.tk_picture.specs.declared.path.Step as read_step
 use Rattle.tk_picture.specs.declared.path.Step.TheVariants.{More, Ended}
-use Rattle.tk_picture.specs.Form
-use Rattle.tk_picture.specs.Form.{Read}
+use Rattle.tk_picture.specs.declared.picture.Drawn as read_drawn
+use Rattle.tk_picture.specs.Form.{mark_of, Numeral, Coordinate, Read}
+use Rattle.tk_picture.specs.Paths.{Going, Drawn, Halfway}
 use Rattle.tk_picture.specs.Repeat
 use Rattle.tk_picture.specs.Repeat.{Step}
-use Rattle.tk_picture.specs.Paths.{Going, Drawn, Halfway}
-use Rattle.tk_picture.specs.declared.picture.Drawn as picture
-use Rattle.tk_item.specs.declared.Item.{Item}
-use Rattle.tk_item.specs.declared.Item.TheVariants.{Path, Label}
 
 -- tokens with their words as texts
 abbrev pub tokens_of : List (List ℕ) → List Tok → List Token
@@ -28,28 +25,23 @@ Tells view (Ok x) answer = answer ≡ Ok (view x)
 Tells view (Err e) answer = answer ≡ Err e
 
 -- a number of the code, with its text as bytes
-abbrev pub numeral_of : List (List ℕ) → written.Numeral → Form.Numeral
-numeral_of names n = record { negative = n.negative; text = map (λ (t : Token). Form.mark_of t.sign) (tokens_of names n.text.now); at = n.at }
+abbrev pub numeral_of : List (List ℕ) → read_numeral.Numeral → Numeral
+numeral_of names n = record { negative = n.negative; text = map (λ (t : Token). mark_of t.sign) (tokens_of names n.text.now); at = n.at }
 
 -- a coordinate of the code
-abbrev pub coordinate_of : List (List ℕ) → coordinates.Coordinate → Form.Coordinate
+abbrev pub coordinate_of : List (List ℕ) → read_coordinate.Coordinate → Coordinate
 coordinate_of names c = record { x = numeral_of names c.x; y = numeral_of names c.y; at = c.at }
 
 -- what a part of a path left, with the pieces that the path then has
-abbrev pub step_of : List (List ℕ) → List Seg → parts.Step → Step Going (Read (List Seg))
+abbrev pub step_of : List (List ℕ) → List Seg → read_step.Step → Step Going (Read (List Seg))
 step_of names segs (More rest) = Repeat.More (record { segs = segs; rest = tokens_of names rest.now })
 step_of names segs (Ended rest) = Repeat.Ended (record { value = segs; rest = tokens_of names rest.now })
 
 -- what was drawn so far
-abbrev pub drawn_of : picture.Drawn → Drawn
+abbrev pub drawn_of : read_drawn.Drawn → Drawn
 drawn_of d = record { items = d.items; frame = d.frame }
 
 -- what a part of a picture left, with what is then drawn
-abbrev pub picture_step : List (List ℕ) → picture.Drawn → parts.Step → Step Halfway (Read Drawn)
+abbrev pub picture_step : List (List ℕ) → read_drawn.Drawn → read_step.Step → Step Halfway (Read Drawn)
 picture_step names d (More rest) = Repeat.More (record { drawn = drawn_of d; rest = tokens_of names rest.now })
 picture_step names d (Ended rest) = Repeat.Ended (record { value = drawn_of d; rest = tokens_of names rest.now })
-
--- an item that is a path
-abbrev pub IsPath : Item → Type 0
-IsPath (Path segs fill stroke) = Unit {0}
-IsPath (Label label) = ⊥

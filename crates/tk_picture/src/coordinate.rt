@@ -38,7 +38,10 @@ const CENTIMETRE: i64 = 1_864_679;
 impl Reader<'_> {
     /// A coordinate in front, and the tokens after it.
     #[tactic(auto, unfolding(crate::specs::Form::coordinate))]
-    pub(crate) fn coordinate<'t>(&self, toks: &'t [Tok]) -> Result<(Coordinate<'t>, &'t [Tok]), Fault>
+    pub(crate) fn coordinate<'t>(
+        &self,
+        toks: &'t [Tok],
+    ) -> Result<(Coordinate<'t>, &'t [Tok]), Fault>
         ensures tells { Tells (λ read. record { value = coordinate_of self.now.names.now read.0; rest = tokens_of self.now.names.now read.1.now }) result (coordinate self.now.end (tokens_of self.now.names.now toks.now)) }
         ensures x { IfOk result (λ read. (names : List (List ℕ)) → is_decimal (numeral_of names read.0.x).text ≡ true) }
         ensures y { IfOk result (λ read. (names : List (List ℕ)) → is_decimal (numeral_of names read.0.y).text ≡ true) }
@@ -67,7 +70,11 @@ impl Reader<'_> {
 
     /// Digits in front with at most one point, and the tokens after them.
     #[tactic(auto, using(crate::proofs::Decimals::split_map, crate::proofs::Decimals::decimal_front), unfolding(crate::specs::Form::unsigned))]
-    fn unsigned<'t>(&self, negative: bool, toks: &'t [Tok]) -> Result<(Numeral<'t>, &'t [Tok]), Fault>
+    fn unsigned<'t>(
+        &self,
+        negative: bool,
+        toks: &'t [Tok],
+    ) -> Result<(Numeral<'t>, &'t [Tok]), Fault>
         ensures tells { Tells (λ read. record { value = numeral_of self.now.names.now read.0; rest = tokens_of self.now.names.now read.1.now }) result (unsigned negative self.now.end (tokens_of self.now.names.now toks.now)) }
         ensures decimal { IfOk result (λ read. (names : List (List ℕ)) → is_decimal (numeral_of names read.0).text ≡ true) }
     {
@@ -81,7 +88,11 @@ impl Reader<'_> {
 
     /// The point of a coordinate: both numbers are found first, then both lengths. `text` is room to write a number in.
     #[tactic(auto, unfolding(crate::specs::Form::point_of))]
-    pub(crate) fn point_of(&self, text: &mut Vec<u8>, written: &Coordinate) -> Result<Point, Refusal>
+    pub(crate) fn point_of(
+        &self,
+        text: &mut Vec<u8>,
+        written: &Coordinate,
+    ) -> Result<Point, Refusal>
         requires x { (names : List (List ℕ)) → is_decimal (numeral_of names written.now.x).text ≡ true }
         requires y { (names : List (List ℕ)) → is_decimal (numeral_of names written.now.y).text ≡ true }
         ensures { Gives (λ p. p) result (point_of (coordinate_of self.now.names.now written.now)) }

@@ -21,7 +21,12 @@ impl Reader<'_> {
     /// Puts the pieces of a path from after `\draw` into `segs`, and gives the tokens after its `;`. `text` is room to
     /// write a number in.
     #[tactic(auto, unfolding(crate::specs::Form::point, crate::specs::Paths::path))]
-    pub(crate) fn path<'t>(&self, segs: &mut Segs, text: &mut Vec<u8>, toks: &'t [Tok]) -> Result<&'t [Tok], Refusal>
+    pub(crate) fn path<'t>(
+        &self,
+        segs: &mut Segs,
+        text: &mut Vec<u8>,
+        toks: &'t [Tok],
+    ) -> Result<&'t [Tok], Refusal>
         requires { segs.old ≡ [] }
         ensures gives { Gives (λ rest. record { value = segs.new; rest = tokens_of self.now.names.now rest.now }) result (path self.now.end (tokens_of self.now.names.now toks.now)) }
         ensures begins { OnOk result (BeginsWithMove segs.new) }
@@ -33,7 +38,12 @@ impl Reader<'_> {
     }
 
     /// Puts the pieces of a path to its `;` behind those that it has.
-    fn operations<'t>(&self, segs: &mut Segs, text: &mut Vec<u8>, toks: &'t [Tok]) -> Result<&'t [Tok], Refusal>
+    fn operations<'t>(
+        &self,
+        segs: &mut Segs,
+        text: &mut Vec<u8>,
+        toks: &'t [Tok],
+    ) -> Result<&'t [Tok], Refusal>
         requires { BeginsWithMove segs.old }
         ensures gives { Gives (λ rest. record { value = segs.new; rest = tokens_of self.now.names.now rest.now }) result (operations self.now.end (record { segs = segs.old; rest = tokens_of self.now.names.now toks.now })) }
         ensures begins { OnOk result (BeginsWithMove segs.new) }
@@ -49,7 +59,12 @@ impl Reader<'_> {
 
     /// Reads `;`, or one operation.
     #[tactic(auto, unfolding(crate::specs::Paths::path_part))]
-    fn path_part<'t>(&self, segs: &mut Segs, text: &mut Vec<u8>, toks: &'t [Tok]) -> Result<Step<'t>, Refusal>
+    fn path_part<'t>(
+        &self,
+        segs: &mut Segs,
+        text: &mut Vec<u8>,
+        toks: &'t [Tok],
+    ) -> Result<Step<'t>, Refusal>
         requires { BeginsWithMove segs.old }
         ensures gives { Gives (step_of self.now.names.now segs.new) result (path_part self.now.end (record { segs = segs.old; rest = tokens_of self.now.names.now toks.now })) }
         ensures begins { OnOk result (BeginsWithMove segs.new) }
@@ -72,7 +87,12 @@ impl Reader<'_> {
 
     /// Reads `--` and its target.
     #[tactic(auto, unfolding(crate::specs::Paths::operation))]
-    fn operation<'t>(&self, segs: &mut Segs, text: &mut Vec<u8>, toks: &'t [Tok]) -> Result<Step<'t>, Refusal>
+    fn operation<'t>(
+        &self,
+        segs: &mut Segs,
+        text: &mut Vec<u8>,
+        toks: &'t [Tok],
+    ) -> Result<Step<'t>, Refusal>
         requires { BeginsWithMove segs.old }
         ensures gives { Gives (step_of self.now.names.now segs.new) result (operation self.now.end segs.old (tokens_of self.now.names.now toks.now)) }
         ensures begins { OnOk result (BeginsWithMove segs.new) }
@@ -99,7 +119,12 @@ impl Reader<'_> {
 
     /// Reads a line to a coordinate.
     #[tactic(auto, unfolding(crate::specs::Form::point, crate::specs::Paths::line))]
-    fn line<'t>(&self, segs: &mut Segs, text: &mut Vec<u8>, toks: &'t [Tok]) -> Result<Step<'t>, Refusal>
+    fn line<'t>(
+        &self,
+        segs: &mut Segs,
+        text: &mut Vec<u8>,
+        toks: &'t [Tok],
+    ) -> Result<Step<'t>, Refusal>
         requires { BeginsWithMove segs.old }
         ensures gives { Gives (step_of self.now.names.now segs.new) result (line self.now.end segs.old (tokens_of self.now.names.now toks.now)) }
         ensures begins { OnOk result (BeginsWithMove segs.new) }

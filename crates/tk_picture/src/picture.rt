@@ -6,15 +6,17 @@ ghost use Rattle.tk_item.specs.Frame.{IsProper};
 ghost use Rattle.tk_svg.specs.Fitting.{Fits, FitsItem, BeginsWithMove};
 ghost use Rattle.tk_token.specs.Refusals.{Gives, OnFault};
 ghost use Rattle.tk_item.specs.declared.Drawing.{Drawing as ADrawing};
-ghost use Rattle.tk_picture.specs.Outcome.{IsOutcome};
+ghost use Rattle.tk_picture.specs.Outcome.{IsOutcome, IsPath};
 ghost use Rattle.tk_picture.specs.Paths.{first_pen, with_path, draw, picture_end, picture_part, paths, no_frame, drawing_of, nothing_after, document};
-ghost use Rattle.tk_picture.specs.Reading.{tokens_of, Tells, drawn_of, picture_step, IsPath};
+ghost use Rattle.tk_picture.specs.Reading.{tokens_of, Tells, drawn_of, picture_step};
 
 use crate::coordinate::scaled;
 use crate::path::Step;
 use crate::reader::{Reader, after_spaces};
 use std::alloc::{AllocError, Global};
-use tk_item::{Cap, Dashes, Drawing, Frame, Item, Items, Join, Rgb, Seg, Segs, Stroke, Text, widen};
+use tk_item::{
+    Cap, Dashes, Drawing, Frame, Item, Items, Join, Rgb, Seg, Segs, Stroke, Text, widen,
+};
 use tk_token::{Fault, Refusal, Tok, lex};
 
 /// The width of the pen that a picture begins with, 0.4pt.
@@ -85,11 +87,20 @@ impl Reader<'_> {
     fn nothing_after(&self, toks: &[Tok]) -> Result<(), Fault>
         ensures { (d : ADrawing) → Tells (λ _. d) result (nothing_after self.now.end d (tokens_of self.now.names.now toks.now)) }
     {
-        if toks.is_empty() { Ok(()) } else { Err(self.unbuilt(toks)) }
+        if toks.is_empty() {
+            Ok(())
+        } else {
+            Err(self.unbuilt(toks))
+        }
     }
 
     /// Draws the paths up to `\end{tikzpicture}`, and gives the tokens after it.
-    fn paths<'t>(&self, alloc: Global, drawn: &mut Drawn, toks: &'t [Tok]) -> Result<&'t [Tok], Refusal>
+    fn paths<'t>(
+        &self,
+        alloc: Global,
+        drawn: &mut Drawn,
+        toks: &'t [Tok],
+    ) -> Result<&'t [Tok], Refusal>
         requires items { AllByRecursion FitsItem drawn.old.items }
         requires paths { AllByRecursion IsPath drawn.old.items }
         requires proper { IfSome drawn.old.frame IsProper }
@@ -110,7 +121,13 @@ impl Reader<'_> {
 
     /// Reads `\end{tikzpicture}`, or draws one path.
     #[tactic(auto, unfolding(crate::specs::Paths::picture_part))]
-    fn picture_part<'t>(&self, alloc: Global, drawn: &mut Drawn, text: &mut Vec<u8>, toks: &'t [Tok]) -> Result<Step<'t>, Refusal>
+    fn picture_part<'t>(
+        &self,
+        alloc: Global,
+        drawn: &mut Drawn,
+        text: &mut Vec<u8>,
+        toks: &'t [Tok],
+    ) -> Result<Step<'t>, Refusal>
         requires items { AllByRecursion FitsItem drawn.old.items }
         requires paths { AllByRecursion IsPath drawn.old.items }
         requires proper { IfSome drawn.old.frame IsProper }
@@ -138,7 +155,13 @@ impl Reader<'_> {
 
     /// Draws `\draw` with its path.
     #[tactic(auto, unfolding(crate::specs::Paths::draw))]
-    fn draw<'t>(&self, alloc: Global, drawn: &mut Drawn, text: &mut Vec<u8>, toks: &'t [Tok]) -> Result<Step<'t>, Refusal>
+    fn draw<'t>(
+        &self,
+        alloc: Global,
+        drawn: &mut Drawn,
+        text: &mut Vec<u8>,
+        toks: &'t [Tok],
+    ) -> Result<Step<'t>, Refusal>
         requires items { AllByRecursion FitsItem drawn.old.items }
         requires paths { AllByRecursion IsPath drawn.old.items }
         requires proper { IfSome drawn.old.frame IsProper }

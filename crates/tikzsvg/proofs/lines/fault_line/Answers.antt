@@ -1,5 +1,4 @@
-use Rattle.std.proofs.Common.{rules, ◌≡◌, IfOk, string_bytes, ℕ, ap, sym, append_assoc}
-use Rattle.std.specs.Prelude.{Result, IfOk}
+use Rattle.std.proofs.Common.{append_assoc}
 use Rattle.tikzsvg.specs.Lines as text
 use Rattle.tikzsvg.proofs.lines.fault_line.Goals as goal
 

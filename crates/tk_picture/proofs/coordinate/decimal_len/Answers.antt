@@ -1,4 +1,4 @@
-use Rattle.std.proofs.Common.{rules, length, drop, take, ◌-◌, arith, length-drop}
+use Rattle.std.proofs.Common.{length, drop, take, ◌-◌, arith, length-drop}
 use Rattle.std.proofs.lemmas.List.{take_all}
 use Rattle.tk_picture.proofs.Decimals.{len_is}
 use Rattle.tk_picture.proofs.coordinate.decimal_len.Goals as goal

@@ -6,7 +6,7 @@ use Rattle.tk_picture.proofs.reader.digits_len.Given as goal
 abbrev pub invariant-loop-first : goal.invariant-loop-first
 invariant-loop-first l = record {
   told : (names : List (List ℕ)) → digits_len (tokens_of names l.toks) + length l.rest ≡ length l.toks + digits_len (tokens_of names l.rest);
-  within : length l.rest ≤ length l.toks
+  within : length l.rest ≤ length l.toks;
 }
 
 abbrev pub decreases-loop-first : goal.decreases-loop-first

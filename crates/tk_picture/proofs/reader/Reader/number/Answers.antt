@@ -1,4 +1,3 @@
-use Rattle.std.proofs.Common.{rules, ◌∙◌}
 use Rattle.tk_picture.proofs.reader.Reader.number.Goals as goal
 
 pub scaled_of-requires : goal.scaled_of-requires

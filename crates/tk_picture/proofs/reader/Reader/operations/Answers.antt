@@ -1,4 +1,4 @@
-use Rattle.std.proofs.Common.{rules, arith}
+use Rattle.std.proofs.Common.{rules}
 use Rattle.std.proofs.lemmas.List.{length-map}
 use Rattle.tk_picture.specs.Reading.{tokens_of}
 use Rattle.tk_picture.specs.Paths.{Going}

@@ -7,7 +7,7 @@ use Rattle.tk_picture.proofs.reader.Reader.operations.Given as goal
 abbrev pub invariant-loop-behind : goal.invariant-loop-behind
 invariant-loop-behind l = record {
   told : operations l.self.end (record { segs = l.fn.segs; rest = tokens_of l.self.names.now l.fn.toks }) ≡ operations l.self.end (record { segs = l.segs; rest = tokens_of l.self.names.now l.rest });
-  begins : BeginsWithMove l.segs
+  begins : BeginsWithMove l.segs;
 }
 
 abbrev pub decreases-loop-behind : goal.decreases-loop-behind

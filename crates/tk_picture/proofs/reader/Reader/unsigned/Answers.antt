@@ -1,4 +1,3 @@
-use Rattle.std.proofs.Common.{rules, sym}
 use Rattle.tk_picture.proofs.Decimals.{decimal_taken}
 use Rattle.tk_picture.proofs.reader.Reader.unsigned.Goals as goal
 
