@@ -123,6 +123,7 @@ unsigned negative end ts = if list_any (λ (t : Token). is_digit t.sign) (take (
 unfoldable pub numeral : ℕ → List Token → Answer (Read Numeral)
 numeral end ts = unsigned (begins (is_char 45) (after_spaces ts)) end (after_optional (is_char 45) (after_spaces ts))
 
+-- a size with its sign
 abbrev pub signed : Bool → ℕ → ℤ
 signed true n = neg_ℤ (pos n)
 signed false n = pos n
