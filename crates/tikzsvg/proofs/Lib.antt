@@ -1,4 +1,3 @@
 pub mod Forms
 pub mod Saying
 pub mod Statuses
-pub mod Outcomes
