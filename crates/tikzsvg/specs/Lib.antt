@@ -3,3 +3,4 @@ pub mod Lines
 pub mod Run
 pub mod Refused
 pub mod Answers
+pub mod HostWords

@@ -28,6 +28,11 @@ impl From<AllocError> for NoWords {
 }
 
 impl From<io::Error> for NoWords {
+    ghost use Rattle.std.specs.IoError.{error_kind};
+    ghost use Rattle.tikzsvg.specs.HostWords.{IsCauseOf};
+
+    ghost from_gives = { λ error cause. IsCauseOf (error_kind error) cause };
+
     fn from(error: io::Error) -> Self {
         match error.kind() {
             ErrorKind::OutOfMemory => NoWords::OutOfMemory,
