@@ -164,5 +164,5 @@ pub record Runs (words : List (List ℕ)) (before after : World) (status : ℕ) 
   pub completes : Completes words before after status
   pub names_fault : NamesFault words before after status
   pub refuses_long : RefusesLong words before after status
-  -- the shelf was asked for no other file
+  -- no count of the shelf falls, and where it tells its bytes those of its other files stay
   pub one_file : (file : List ℕ) → command_of words ≡ Some (Render file) → Counts file before.shelf after.shelf
