@@ -13,7 +13,8 @@ use Rattle.tikzsvg.specs.declared.program.Status.TheVariants as statuses
 use Rattle.tikzsvg.specs.contracts.program.Status.{the_type}
 use Rattle.tikzsvg.specs.Words.{Render, command_of}
 use Rattle.tikzsvg.specs.Lines.{fault_line, too_long_line}
-use Rattle.tikzsvg.specs.Run.{World, Holds, WasRead, WasTooLong, Says, Done, HasFault, IsTooLong, IsUsage, ReadFails, WriteFails, LacksMemory, Asks, most_bytes, DidNotFail, Runs}
+use Rattle.tk_io.specs.declared.reading.TheConstants.{MOST_BYTES}
+use Rattle.tikzsvg.specs.Run.{World, Holds, WasRead, WasTooLong, Says, Done, HasFault, IsTooLong, IsUsage, ReadFails, WriteFails, LacksMemory, Asks, DidNotFail, Runs}
 use Rattle.tikzsvg.specs.Answers.{Renders, done, fault, too_long, read_fault, write_fault, out_of_memory, Answers, renders, usage}
 
 -- the number of a status
@@ -145,8 +146,8 @@ err_same f g r e h = cc
 same_source : (shelf after : Shelved) (file source read : List ℕ) → Holds shelf file source → WasRead file read shelf after → read ≡ source
 same_source shelf after file source read h w = subst (λ o. IfSome o (λ holds. read ≡ unwrap_or (holds file) [])) h.told w.is_source ∙ sym h.is
 
-long_source : (shelf after : Shelved) (file source : List ℕ) → Holds shelf file source → WasTooLong file shelf after → most_bytes < length source
-long_source shelf after file source h w = subst (λ (bytes : List ℕ). most_bytes < length bytes) (sym h.is) (subst (λ o. IfSome o (λ holds. most_bytes < length (unwrap_or (holds file) []))) h.told w.long)
+long_source : (shelf after : Shelved) (file source : List ℕ) → Holds shelf file source → WasTooLong file shelf after → MOST_BYTES < length source
+long_source shelf after file source h w = subst (λ (bytes : List ℕ). MOST_BYTES < length bytes) (sym h.is) (subst (λ o. IfSome o (λ holds. MOST_BYTES < length (unwrap_or (holds file) []))) h.told w.long)
 
 -- a source has one outcome
 abbrev pub OneOutcome : Type 0
@@ -157,32 +158,32 @@ module _ (one : OneOutcome) (b a : World) (file source : List ℕ) (holds : Hold
   drawn_is : (read : List ℕ) (r s : Result Drawing Fault) → WasRead file read b.shelf a.shelf → IsOutcome read r → IsOutcome source s → r ≡ s
   drawn_is read r s w is this = one source r s (subst (λ (bytes : List ℕ). IsOutcome bytes r) (same_source b.shelf a.shelf file source read holds w) is) this
 
-  completes_at : {s : Status} (drawing : Drawing) → Renders file b a s → length source ≤ most_bytes → IsOutcome source (Ok drawing) → DidNotFail (b.shelf.faults file) (a.shelf.faults file) → DidNotFail b.out.faults a.out.faults → ((number s ≡ 0) × Takes b.out a.out (document_text drawing) × IsDocument (document_text drawing) drawing) ⊎ (number s ≡ 5)
+  completes_at : {s : Status} (drawing : Drawing) → Renders file b a s → length source ≤ MOST_BYTES → IsOutcome source (Ok drawing) → DidNotFail (b.shelf.faults file) (a.shelf.faults file) → DidNotFail b.out.faults a.out.faults → ((number s ≡ 0) × Takes b.out a.out (document_text drawing) × IsDocument (document_text drawing) drawing) ⊎ (number s ≡ 5)
   completes_at drawing (done r) short is reads writes =
       let this = ok_same r.drawing drawing (Ok drawing) (sym (drawn_is r.drawn.source (Ok r.drawing) (Ok drawing) r.drawn.read r.drawn.is is)) refl in
       inl (refl, subst (λ (d : Drawing). Takes b.out a.out (document_text d)) this r.written, subst (λ (d : Drawing). IsDocument (document_text d) d) this r.means)
   completes_at drawing (fault r) short is reads writes = absurd (ok_is_no_err drawing r.fault (Ok drawing) refl (sym (drawn_is r.source (Err r.fault) (Ok drawing) r.broken.read r.broken.is is)))
-  completes_at drawing (too_long r) short is reads writes = absurd (let long : most_bytes < length source = long_source b.shelf a.shelf file source holds r.long in omega arith)
+  completes_at drawing (too_long r) short is reads writes = absurd (let long : MOST_BYTES < length source = long_source b.shelf a.shelf file source holds r.long in omega arith)
   completes_at drawing (read_fault r) short is reads writes = absurd (reads r.cause)
   completes_at drawing (write_fault r) short is reads writes = absurd (writes r.cause)
   completes_at drawing (out_of_memory r) short is reads writes = inr refl
 
-  names_at : {s : Status} (f : Fault) → Renders file b a s → length source ≤ most_bytes → IsOutcome source (Err f) → DidNotFail (b.shelf.faults file) (a.shelf.faults file) → ((number s ≡ 1) × Says b.err a.err (fault_line file source f)) ⊎ (number s ≡ 5)
+  names_at : {s : Status} (f : Fault) → Renders file b a s → length source ≤ MOST_BYTES → IsOutcome source (Err f) → DidNotFail (b.shelf.faults file) (a.shelf.faults file) → ((number s ≡ 1) × Says b.err a.err (fault_line file source f)) ⊎ (number s ≡ 5)
   names_at f (done r) short is reads = absurd (ok_is_no_err r.drawing f (Err f) (sym (drawn_is r.drawn.source (Ok r.drawing) (Err f) r.drawn.read r.drawn.is is)) refl)
   names_at f (fault r) short is reads =
       let same = same_source b.shelf a.shelf file source r.source holds r.broken.read in
       let this = err_same r.fault f (Err f) (sym (drawn_is r.source (Err r.fault) (Err f) r.broken.read r.broken.is is)) refl in
       inl (refl, subst (λ (bytes : List ℕ). Says b.err a.err (fault_line file bytes f)) same (subst (λ (g : Fault). Says b.err a.err (fault_line file r.source g)) this r.says))
-  names_at f (too_long r) short is reads = absurd (let long : most_bytes < length source = long_source b.shelf a.shelf file source holds r.long in omega arith)
+  names_at f (too_long r) short is reads = absurd (let long : MOST_BYTES < length source = long_source b.shelf a.shelf file source holds r.long in omega arith)
   names_at f (read_fault r) short is reads = absurd (reads r.cause)
   names_at f (write_fault r) short is reads = absurd (ok_is_no_err r.drawing f (Err f) (sym (drawn_is r.drawn.source (Ok r.drawing) (Err f) r.drawn.read r.drawn.is is)) refl)
   names_at f (out_of_memory r) short is reads = inr refl
 
   -- a longer file wasn't read
-  too_short : (read : List ℕ) → WasRead file read b.shelf a.shelf → most_bytes < length source → ⊥
-  too_short read w long = let short : length source ≤ most_bytes = subst (λ (bytes : List ℕ). length bytes ≤ most_bytes) (same_source b.shelf a.shelf file source read holds w) w.short in omega arith
+  too_short : (read : List ℕ) → WasRead file read b.shelf a.shelf → MOST_BYTES < length source → ⊥
+  too_short read w long = let short : length source ≤ MOST_BYTES = subst (λ (bytes : List ℕ). length bytes ≤ MOST_BYTES) (same_source b.shelf a.shelf file source read holds w) w.short in omega arith
 
-  refuses_at : {s : Status} → Renders file b a s → most_bytes < length source → DidNotFail (b.shelf.faults file) (a.shelf.faults file) → ((number s ≡ 1) × Says b.err a.err (too_long_line file)) ⊎ (number s ≡ 5)
+  refuses_at : {s : Status} → Renders file b a s → MOST_BYTES < length source → DidNotFail (b.shelf.faults file) (a.shelf.faults file) → ((number s ≡ 1) × Says b.err a.err (too_long_line file)) ⊎ (number s ≡ 5)
   refuses_at (done r) long reads = absurd (too_short r.drawn.source r.drawn.read long)
   refuses_at (fault r) long reads = absurd (too_short r.source r.broken.read long)
   refuses_at (too_long r) long reads = inl (refl, r.says)

@@ -2,6 +2,7 @@
 use Rattle.std.specs.Prelude.{◌≡◌, ◌≢◌, ◌↔◌, ◌⊎◌, ℕ, ◌+◌, ◌<◌, ◌≤◌, List, [], length, take, Option, Some, None, IfSome, Ok, Err, unwrap_or}
 use Rattle.tk_token.specs.declared.Fault.{Fault}
 use Rattle.tk_item.specs.declared.Drawing.{Drawing}
+use Rattle.tk_io.specs.declared.reading.TheConstants.{MOST_BYTES}
 use Rattle.tk_io.specs.Causes.{Rose}
 use Rattle.tk_io.specs.Shelf.{Shelved, Counts}
 use Rattle.tk_io.specs.Sink.{Sunk, Takes}
@@ -10,10 +11,6 @@ use Rattle.tk_svgwrite.specs.Plain.{document_text}
 use Rattle.tk_picture.specs.Outcome.{IsOutcome}
 use Rattle.tikzsvg.specs.Words.{Render, command_of}
 use Rattle.tikzsvg.specs.Lines.{fault_line, too_long_line, read_fault_line, usage_line, write_fault_line, out_of_memory_line}
-
--- the most bytes that an input may have
-abbrev pub most_bytes : ℕ
-most_bytes = 16777216
 
 -- what the shelf and the two sinks mean at a moment
 pub record World : Type 0 where
@@ -36,14 +33,14 @@ pub record Holds (shelf : Shelved) (file source : List ℕ) : Type 0 where
 -- the file was read to its end, and this is what it gave: all that the shelf holds under it, where the shelf tells that
 pub record WasRead (file source : List ℕ) (before after : Shelved) : Type 0 where
   pub is_source : IfSome before.holds (λ holds. source ≡ unwrap_or (holds file) [])
-  pub short : length source ≤ most_bytes
+  pub short : length source ≤ MOST_BYTES
   pub taken : after.taken ≡ length source
   pub ended : IfSome before.holds (λ _. after.left ≡ Some [])
 
 -- the file gave one byte more than an input may have, and holds that many where the shelf tells that
 pub record WasTooLong (file : List ℕ) (before after : Shelved) : Type 0 where
-  pub taken : after.taken ≡ most_bytes + 1
-  pub long : IfSome before.holds (λ holds. most_bytes < length (unwrap_or (holds file) []))
+  pub taken : after.taken ≡ MOST_BYTES + 1
+  pub long : IfSome before.holds (λ holds. MOST_BYTES < length (unwrap_or (holds file) []))
 
 -- the file was read, and draws this
 pub record Draws (file : List ℕ) (before after : Shelved) (drawing : Drawing) : Type 0 where
@@ -128,21 +125,21 @@ DidNotFail before after = Rose before after → ⊥
 -- the document of a drawing is written, which reads back as that drawing, unless `out` fails or memory runs out
 abbrev pub Completes : List (List ℕ) → World → World → ℕ → Type 0
 Completes words before after status =
-    (file source : List ℕ) (drawing : Drawing) → command_of words ≡ Some (Render file) → Holds before.shelf file source → length source ≤ most_bytes → IsOutcome source (Ok drawing)
+    (file source : List ℕ) (drawing : Drawing) → command_of words ≡ Some (Render file) → Holds before.shelf file source → length source ≤ MOST_BYTES → IsOutcome source (Ok drawing)
     → DidNotFail (before.shelf.faults file) (after.shelf.faults file) → DidNotFail before.out.faults after.out.faults
     → ((status ≡ 0) × Takes before.out after.out (document_text drawing) × IsDocument (document_text drawing) drawing) ⊎ (status ≡ 5)
 
 -- a fault is named, unless memory runs out
 abbrev pub NamesFault : List (List ℕ) → World → World → ℕ → Type 0
 NamesFault words before after status =
-    (file source : List ℕ) (fault : Fault) → command_of words ≡ Some (Render file) → Holds before.shelf file source → length source ≤ most_bytes → IsOutcome source (Err fault)
+    (file source : List ℕ) (fault : Fault) → command_of words ≡ Some (Render file) → Holds before.shelf file source → length source ≤ MOST_BYTES → IsOutcome source (Err fault)
     → DidNotFail (before.shelf.faults file) (after.shelf.faults file)
     → ((status ≡ 1) × Says before.err after.err (fault_line file source fault)) ⊎ (status ≡ 5)
 
 -- a longer file is refused, unless memory runs out
 abbrev pub RefusesLong : List (List ℕ) → World → World → ℕ → Type 0
 RefusesLong words before after status =
-    (file source : List ℕ) → command_of words ≡ Some (Render file) → Holds before.shelf file source → most_bytes < length source
+    (file source : List ℕ) → command_of words ≡ Some (Render file) → Holds before.shelf file source → MOST_BYTES < length source
     → DidNotFail (before.shelf.faults file) (after.shelf.faults file)
     → ((status ≡ 1) × Says before.err after.err (too_long_line file)) ⊎ (status ≡ 5)
 

@@ -1,18 +1,17 @@
 -- The text of a number reads back.
-use Rattle.std.proofs.Common.{◌≡◌, ℕ, zero, suc, ◌+◌, ◌*◌, ◌/◌, ◌%◌, ◌^◌, ◌<◌, ◌≤◌, Bool, true, false, cond, eqb, ltb, leb, List, [], ◌∷◌, ◌++◌, length, take, Some, refl, sym, ap, ◌∙◌, arith, append_assoc, add-zero}
+use Rattle.std.proofs.Common.{◌≡◌, ℕ, suc, ◌+◌, ◌*◌, ◌/◌, ◌%◌, ◌^◌, ◌<◌, ◌≤◌, Bool, true, false, cond, eqb, ltb, leb, List, [], ◌∷◌, ◌++◌, length, Some, refl, sym, ap, ◌∙◌, arith, append_assoc, add-zero}
 use Rattle.std.specs.Prelude.{ℤ, pos, negsuc, unsigned_abs, decimal}
 use Rattle.std.specs.Char.{is_ascii_digit, digit_value}
-use Rattle.std.specs.Str.Parse.{digits_value, AllDigits}
+use Rattle.std.specs.Str.Parse.{AllDigits}
 use Rattle.std.proofs.lemmas.Fmt.{decimal_is_IsNumeral}
-use Rattle.std.proofs.lemmas.Int.Digits.{digits_value_push, digits_push}
 use Rattle.std.proofs.lemmas.Str.Parse.{digit_from_value}
-use Rattle.std.proofs.lemmas.List.{take_all, length-append, append-nil}
-use Rattle.std.proofs.Math.Nat.{pow-suc}
+use Rattle.std.proofs.lemmas.List.{append-nil}
 use Rattle.std.proofs.lemmas.Bool.{lt-ltb, le-leb, eqb-true, false_from_ne_true}
 use Rattle.std.proofs.lemmas.Bool.Decides.{nat_tests}
 use Rattle.tk_num.specs.Number.{fraction_of, nearest_65536th}
 use Rattle.tk_num.specs.Text.{fixed_digits, fewest_digits, nearest_digits, part_text, text_of, IsBest}
 use Rattle.tk_num.proofs.Best.{is_best}
+use Rattle.tk_num.proofs.Fixed.{fixed_all, fraction-fixed, decimal_all, decimal_some, value-decimal}
 use Rattle.tk_svg.specs.Scan.{digits_of, after_digits, part_of, after_part, value_of, unsigned_from, unsigned_at, number_at}
 
 -- a digit is one
@@ -40,27 +39,6 @@ digits_front (d ∷ ds) rest h e =
     let more = digits_front ds rest h.1 e in
     (rw first (ap (λ w. d ∷ w) more.0), rw first more.1)
 
-glyph_value : (d : ℕ) → d < 10 → digit_value (48 + d) ≡ d
-glyph_value d lt = grind (arith, nat_tests)
-
--- n digits are digits, n of them, and write the number
-pub fixed_all : (n m : ℕ) → AllDigits 10 (fixed_digits n m)
-fixed_all zero m = tt
-fixed_all (suc n) m = digits_push 10 (fixed_digits n (m / 10)) (48 + m % 10) (fixed_all n (m / 10)) (rw (glyph_value (m % 10) (omega arith)) (omega arith))
-
-length-fixed : (n m : ℕ) → length (fixed_digits n m) ≡ n
-length-fixed zero m = refl
-length-fixed (suc n) m = omega (arith, length-append (fixed_digits n (m / 10)) ((48 + m % 10) ∷ []), length-fixed n (m / 10))
-
-value-fixed : (n m : ℕ) → m < 10 ^ n → digits_value 10 (fixed_digits n m) ≡ m
-value-fixed zero m lt = omega arith
-value-fixed (suc n) m lt =
-    let front : m / 10 < 10 ^ n = let l : m < 10 ^ n * 10 = rw (← pow-suc 10 n) lt in omega arith in
-    digits_value_push 10 (fixed_digits n (m / 10)) (48 + m % 10) ∙ rw (value-fixed n (m / 10) front, glyph_value (m % 10) (omega arith)) (omega arith)
-
-value-decimal : (n : ℕ) → n < 2 ^ 64 → digits_value 10 (decimal n) ≡ n
-value-decimal n lt = (decimal_is_IsNumeral n lt).1
-
 unsigned_from_is : (whole part rest : List ℕ) (v : ℕ) → 0 < length whole → value_of whole part ≡ v → v ≤ 4294967295 → unsigned_from whole part rest ≡ Some (v, rest)
 unfolding unsigned_from
 unsigned_from_is whole part rest v some is le =
@@ -84,28 +62,18 @@ no_digits : (rest : List ℕ) → EndsNumber rest → EndsDigits rest
 no_digits [] e = tt
 no_digits (c ∷ cs) e = e.0
 
-decimal_some : (w : ℕ) → w < 2 ^ 64 → 0 < length (decimal w)
-decimal_some w lt = (decimal_is_IsNumeral w lt).0.0
-
 -- a whole number is one number
 whole_at : (w : ℕ) (rest : List ℕ) → w ≤ 65535 → EndsNumber rest → unsigned_at (decimal w ++ rest) ≡ Some (65536 * w, rest)
 whole_at w rest le e =
-    let d = digits_front (decimal w) rest (decimal_is_IsNumeral w (omega arith)).0.1 (no_digits rest e) in
+    let d = digits_front (decimal w) rest (decimal_all w (omega arith)) (no_digits rest e) in
     let p = no_part rest e in
     let value : value_of (decimal w) [] ≡ 65536 * w = rw (value-decimal w (omega arith)) (add-zero (65536 * w)) in
     unsigned_at_is (decimal w ++ rest) (decimal w) [] rest (65536 * w) d.0 (ap part_of d.1 ∙ p.0) (ap after_part d.1 ∙ p.1) (decimal_some w (omega arith)) value (omega arith)
 
-fraction-fixed : (n m : ℕ) → n ≤ 17 → m < 10 ^ n → fraction_of (fixed_digits n m) ≡ nearest_65536th n m
-fraction-fixed n m high lt =
-    let all : take 17 (fixed_digits n m) ≡ fixed_digits n m = take_all 17 (fixed_digits n m) (omega (arith, length-fixed n m)) in
-    ap (λ (ds : List ℕ). nearest_65536th (length ds) (digits_value 10 ds)) all
-    ∙ ap (λ (k : ℕ). nearest_65536th k (digits_value 10 (fixed_digits n m))) (length-fixed n m)
-    ∙ ap (λ (k : ℕ). nearest_65536th n k) (value-fixed n m lt)
-
 -- and so is one with digits behind a point
 part_at : (w n m : ℕ) (rest : List ℕ) → w ≤ 65535 → n ≤ 17 → m < 10 ^ n → 65536 * w + nearest_65536th n m ≤ 4294967295 → EndsNumber rest → unsigned_at (decimal w ++ 46 ∷ (fixed_digits n m ++ rest)) ≡ Some (65536 * w + nearest_65536th n m, rest)
 part_at w n m rest le high lt most e =
-    let whole = digits_front (decimal w) (46 ∷ (fixed_digits n m ++ rest)) (decimal_is_IsNumeral w (omega arith)).0.1 refl in
+    let whole = digits_front (decimal w) (46 ∷ (fixed_digits n m ++ rest)) (decimal_all w (omega arith)) refl in
     let part = digits_front (fixed_digits n m) rest (fixed_all n m) (no_digits rest e) in
     let value : value_of (decimal w) (fixed_digits n m) ≡ 65536 * w + nearest_65536th n m =
     ap (λ (k : ℕ). 65536 * k + fraction_of (fixed_digits n m)) (value-decimal w (omega arith)) ∙ ap (λ (k : ℕ). 65536 * w + k) (fraction-fixed n m high lt) in

@@ -63,6 +63,7 @@ join_of = word_of ((codes "miter", join.Miter) ∷ (codes "round", join.Round) �
 abbrev pub is_length : ℤ → Bool
 is_length x = is_scaled x && int_le (pos 0) x
 
+-- such a number from its text
 unfoldable pub length_of : List ℕ → Option ℤ
 length_of value = number_of value >>= λ x. if is_length x then Some x else None
 

@@ -85,11 +85,13 @@ abbrev pub rule_text : Rule → List ℕ
 rule_text NonZero = codes "nonzero"
 rule_text EvenOdd = codes "evenodd"
 
+-- how an open line ends
 abbrev pub cap_text : Cap → List ℕ
 cap_text cap.Butt = codes "butt"
 cap_text cap.Round = codes "round"
 cap_text cap.Square = codes "square"
 
+-- how two lines meet
 abbrev pub join_text : Join → List ℕ
 join_text join.Miter = codes "miter"
 join_text join.Round = codes "round"
@@ -136,10 +138,11 @@ item_text (Label label) = []
 
 -- ---- the document
 
--- how wide a frame is, and how high
+-- how wide a frame is
 abbrev pub width_of : Frame → ℤ
 width_of frame = frame.right -ℤ frame.left
 
+-- how high a frame is
 abbrev pub height_of : Frame → ℤ
 height_of frame = frame.top -ℤ frame.bottom
 
