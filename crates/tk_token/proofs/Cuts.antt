@@ -1,7 +1,7 @@
 -- The pieces in front.
 use Rattle.std.proofs.Common.{◌≡◌, ◌≢◌, ℕ, true, false, List, [], ◌∷◌, Option, Some, sym, ap, subst, ◌∙◌}
 use Rattle.std.specs.Prelude.{unwrap_or}
-use Rattle.tk_token.specs.Token.{Sign, A_word, A_symbol, A_space, Token}
+use Rattle.tk_token.specs.Token.{Sign, A_word, A_symbol, A_space}
 use Rattle.tk_token.specs.Cutting.{is_blank, is_letter, letters_of, after_letters, after_gap, makes_space, single, Tokens, gap, word, control_space, symbol, other}
 use Rattle.tk_token.specs.Pieces.{CutsOne}
 

@@ -1,14 +1,12 @@
 -- Where faults stand.
-use Rattle.std.proofs.Common.{◌≡◌, ℕ, zero, suc, ◌+◌, ◌-◌, ◌<◌, ◌≤◌, Bool, true, false, cond, ltb, ◌==◌, List, [], ◌∷◌, ◌++◌, length, take, drop, Option, Some, None, Result, Ok, Err, refl, sym, ap, subst, ◌∙◌, arith}
+use Rattle.std.proofs.Common.{◌≡◌, ℕ, zero, suc, ◌≤◌, Bool, true, false, cond, ltb, ◌==◌, List, [], ◌∷◌, length, take, drop, Option, Some, None, Ok, Err, refl, sym, subst, arith}
 use Rattle.std.specs.Prelude.{if◌then◌else◌, IfOk, IfErr, IfSome, MatchResult}
 use Rattle.std.specs.Option.{option_map}
-use Rattle.std.specs.List.{AllByRecursion, position, position_or_len}
+use Rattle.std.specs.List.{AllByRecursion, position_or_len}
 use Rattle.std.specs.Str.{chars, is_utf8, IsUtf8}
 use Rattle.std.specs.Str.Lossy.{utf8_valid_len, valid_len_up_to}
-use Rattle.std.proofs.Math.Seq.{drop-cons}
-use Rattle.std.proofs.lemmas.Bool.{ltb-true}
-use Rattle.std.proofs.lemmas.List.{take-append-drop, length-append}
-use Rattle.std.proofs.lemmas.Str.{IsUtf8-nil, IsUtf8-from_is_utf8, utf8_valid_len_le, encodes-append}
+use Rattle.std.proofs.lemmas.List.{take-append-drop}
+use Rattle.std.proofs.lemmas.Str.{IsUtf8-nil, IsUtf8-from_is_utf8, utf8_valid_len_le}
 use Rattle.tk_token.specs.declared.Code.TheVariants.{NotUtf8, BadChar, TooDeep}
 use Rattle.tk_token.specs.declared.Fault.{Fault}
 use Rattle.tk_token.specs.Answers.{Answer, ◌>>=◌, fault}
@@ -17,7 +15,6 @@ use Rattle.tk_token.specs.Cutting.{byte_count}
 use Rattle.tk_token.specs.Faults.{is_refused, first_place, fault_at, text_fault, after_token, after_tokens, none_open, balanced, Lexes, refused, cut}
 use Rattle.tk_token.proofs.Refused.{text_without_fault}
 use Rattle.tk_token.proofs.Starts.{IsStart, front_is_text, starts, ends_mark}
-use Rattle.tk_token.proofs.Texts.{byte_count_is}
 
 -- a place up to which a source is text
 abbrev pub IsTextTo : List ℕ → ℕ → Type 0

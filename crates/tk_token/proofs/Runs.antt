@@ -1,6 +1,6 @@
 -- Runs of characters in front.
-use Rattle.std.proofs.Common.{◌≡◌, ℕ, suc, ◌+◌, Bool, true, false, not, ◌==◌, cond, List, [], ◌∷◌, ◌++◌, drop, refl, sym, ap, ◌∙◌, arith, one-add}
-use Rattle.std.specs.List.{prefix_len, position_or_len, after_first}
+use Rattle.std.proofs.Common.{◌≡◌, ℕ, suc, ◌+◌, Bool, true, false, not, ◌==◌, List, [], ◌∷◌, ◌++◌, drop, refl, sym, ap, ◌∙◌, arith, one-add}
+use Rattle.std.specs.List.{position_or_len, after_first}
 use Rattle.std.specs.Str.{NonePass}
 use Rattle.tk_token.specs.Places.{is_line_end}
 use Rattle.tk_token.specs.Cutting.{is_blank, after_while, gap_end}

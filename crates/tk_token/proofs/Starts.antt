@@ -1,7 +1,7 @@
 -- Where tokens stand.
 use Rattle.std.proofs.Common.{◌≡◌, ℕ, zero, suc, ◌+◌, ◌-◌, ◌<◌, ◌≤◌, Bool, true, false, not, ◌&&◌, ◌==◌, List, [], ◌∷◌, ◌++◌, length, map, take, drop, refl, sym, ap, subst, ◌∙◌, arith, append_assoc}
 use Rattle.std.specs.Prelude.{if◌then◌else◌}
-use Rattle.std.specs.Char.{len_utf8, encode_utf8}
+use Rattle.std.specs.Char.{encode_utf8}
 use Rattle.std.specs.List.{All, AllByRecursion, prefix_len, position_or_len, after_first}
 use Rattle.std.specs.Str.{chars, all_scalars, encode_utf8_all, IsUtf8}
 use Rattle.std.proofs.Math.Seq.{take-append_seam}
@@ -13,7 +13,7 @@ use Rattle.tk_token.specs.declared.Kind.TheVariants.{Char, Word, Symbol, Open, C
 use Rattle.tk_token.specs.declared.Tok.{Tok}
 use Rattle.tk_token.specs.Places.{is_line_end}
 use Rattle.tk_token.specs.Token.{Sign, A_char, Opens, Closes, A_param, An_arg, Token, sign_of, token_of, IsNoArg}
-use Rattle.tk_token.specs.Cutting.{is_blank, is_indent, is_letter, after_while, after_comment, after_gap, after_letters, gap_end, byte_count, Tokens, ends, comment, gap, word, control_space, symbol, other}
+use Rattle.tk_token.specs.Cutting.{is_blank, is_indent, is_letter, after_comment, after_letters, gap_end, byte_count, Tokens, ends, comment, gap, word, control_space, symbol, other}
 use Rattle.tk_token.specs.Faults.{after_mark}
 use Rattle.tk_token.proofs.Ascii.{front_and, back_and}
 

@@ -6,6 +6,8 @@ mod laws;
 mod lexer;
 mod names;
 mod positions;
+#[cfg(test)]
+mod tests;
 
 pub use laws::{
     a_source_lexes_in_one_way, a_source_without_fault_is_text, all_characters_have_tokens,

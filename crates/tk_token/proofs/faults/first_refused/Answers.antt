@@ -1,5 +1,5 @@
-use Rattle.std.proofs.Common.{◌≡◌, ◌≤◌, ℕ, List, [], ◌∷◌, ◌++◌, length, refl, sym, ap, ◌∙◌, arith, append_assoc}
-use Rattle.std.specs.Str.{chars, NonePass}
+use Rattle.std.proofs.Common.{ℕ, List, [], ◌∷◌, ◌++◌, sym, ap, ◌∙◌, arith, append_assoc}
+use Rattle.std.specs.Str.{chars}
 use Rattle.tk_token.specs.Faults.{is_refused}
 use Rattle.tk_token.proofs.Refused.{first_found, none_found, none_more}
 use Rattle.tk_token.proofs.faults.first_refused.Goals as goal

@@ -1,4 +1,4 @@
-use Rattle.std.proofs.Common.{◌≡◌, ℕ, List, Some, sym, ap, ◌∙◌}
+use Rattle.std.proofs.Common.{ℕ, List, Some, sym, ap, ◌∙◌}
 use Rattle.std.specs.Option.{option_map}
 use Rattle.std.specs.Str.{chars}
 use Rattle.tk_token.specs.declared.Code.TheVariants.{BadChar}
@@ -19,8 +19,9 @@ returns-in-Some c =
     ∙ ap (λ (f : Fault). Some f) (sym c.fault-in-Some.ensures)
 
 pub returns-in-None : goal.returns-in-None
-returns-in-None c =
-    (c.in-Ok.ensures.cases.0,
-    text_fault_is c.args.source.now c.in-Ok.ensures.cases.1
-    ∙ ap (λ (b : List ℕ). option_map (fault_at BadChar) (first_place is_refused (chars b))) (sym c.in-Ok.ensures.cases.0)
-    ∙ ap (option_map (fault_at BadChar)) (sym c.in-None.ensures.value))
+returns-in-None c = (
+  c.in-Ok.ensures.cases.0,
+  text_fault_is c.args.source.now c.in-Ok.ensures.cases.1
+      ∙ ap (λ (b : List ℕ). option_map (fault_at BadChar) (first_place is_refused (chars b))) (sym c.in-Ok.ensures.cases.0)
+      ∙ ap (option_map (fault_at BadChar)) (sym c.in-None.ensures.value),
+)

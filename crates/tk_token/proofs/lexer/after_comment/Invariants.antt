@@ -1,4 +1,4 @@
-use Rattle.std.proofs.Common.{◌≡◌, ◌≤◌, ℕ, List, length}
+use Rattle.std.proofs.Common.{◌≡◌, ◌≤◌, length}
 use Rattle.std.specs.Str.{chars, IsUtf8}
 use Rattle.tk_token.specs.Cutting.{after_comment, after_while, is_indent}
 use Rattle.tk_token.proofs.lexer.after_comment.Given as goal

@@ -1,4 +1,4 @@
-use Rattle.std.proofs.Common.{rules, ◌≡◌, ◌<◌, get_or, ℕ, List, length, map, Ok, sym, ap, subst, ◌∙◌}
+use Rattle.std.proofs.Common.{rules, ◌≡◌, ◌<◌, get_or, ℕ, List, length, map, Ok, sym, subst}
 use Rattle.tk_token.specs.declared.Tok.{Tok}
 use Rattle.tk_token.specs.Faults.{balanced, refused}
 use Rattle.tk_token.specs.Refusals.{Fails}
