@@ -1,11 +1,16 @@
 pub mod Answering
 pub mod Ascii
+pub mod Braces
 pub mod Cuts
+pub mod Faulty
 pub mod Fixpoint
 pub mod Fronts
 pub mod Lines
 pub mod Listed
 pub mod Loop
-pub mod Told
+pub mod Refused
+pub mod Runs
+pub mod Starts
+pub mod Texts
 pub mod Total
 pub mod Unique

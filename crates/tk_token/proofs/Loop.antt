@@ -1,16 +1,16 @@
 -- One turn of cutting.
-use Rattle.std.proofs.Common.{◌≡◌, ℕ, zero, suc, ◌+◌, ◌-◌, ◌<◌, ◌≤◌, Bool, ◌&&◌, true, false, List, [], ◌∷◌, ◌++◌, length, drop, map, None, refl, sym, ap, subst, ◌∙◌, arith, append_assoc, not}
+use Rattle.std.proofs.Common.{◌≡◌, ℕ, zero, suc, ◌-◌, ◌<◌, List, [], ◌∷◌, ◌++◌, length, map, refl, sym, ap, subst, ◌∙◌, arith, append_assoc}
 use Rattle.std.specs.List.{list_all, AllByRecursion, position, position_or_len, slice_get}
 use Rattle.std.specs.Prelude.{unwrap_or}
-use Rattle.std.proofs.lemmas.List.{length-append, append-nil, map-append, length-drop}
-use Rattle.std.proofs.lemmas.Bool.Decides.{nat_tests}
-use Rattle.std.proofs.lemmas.Bool.{false≢true}
+use Rattle.std.proofs.lemmas.List.{length-append, append-nil, map-append}
 use Rattle.tk_token.specs.declared.Tok.{Tok}
 use Rattle.tk_token.specs.declared.Kind.{Kind}
 use Rattle.tk_token.specs.declared.Kind.TheVariants.{Char, Word, Symbol, Open, Close, Param, Arg, Space}
 use Rattle.tk_token.specs.Token.{Sign, Token, sign_of, token_of, IsWordIn, Extends, A_word}
-use Rattle.tk_token.specs.Cutting.{is_known, Tokens, ends}
+use Rattle.std.specs.Str.{chars, IsUtf8}
+use Rattle.tk_token.specs.Cutting.{token_at, after_comment, Tokens, ends, comment}
 use Rattle.tk_token.specs.Pieces.{CutsOne}
+use Rattle.tk_token.proofs.Texts.{byte_count_is}
 
 -- a word that is there keeps its meaning when words are added
 got_same : {A : Type 0} (xs ys : List A) (k : ℕ) → k < length xs → slice_get (xs ++ ys) k ≡ slice_get xs k
@@ -46,44 +46,27 @@ pub words_more : (names new : List (List ℕ)) (toks : List Tok) (tok : Tok) →
 words_more names new [] tok e h w = (w, tt)
 words_more names new (t ∷ ts) tok e h w = (subst (λ ns. IsWordIn ns t.kind) (sym e.1) (word_kept names e.0 t.kind h.0), words_more names new ts tok e h.1 w)
 
-pub goes_on_more : (n : ℕ) (source rest : List ℕ) (names new : List (List ℕ)) (toks : List Tok) (kind : Kind) (at taken : ℕ) → ((ts : List Token) → Tokens n rest ts → Tokens n source (map (token_of names) toks ++ ts)) → AllByRecursion (λ t. IsWordIn names t.kind) toks → Extends names new → CutsOne rest (sign_of new kind) taken → at ≡ n - length rest → (ts : List Token) → Tokens n (drop taken rest) ts → Tokens n source (map (token_of new) (toks ++ record { kind = kind; at = at } ∷ []) ++ ts)
-goes_on_more n source rest names new toks kind at taken so words e cuts place ts t =
-    let token : Token = record { sign = sign_of new kind; at = n - length rest } in
-    let here : Tokens n source (map (token_of names) toks ++ token ∷ ts) = so (token ∷ ts) (cuts.cut n ts t) in
-    let olds : map (token_of new) toks ≡ map (token_of names) toks = ap (λ ns. map (token_of ns) toks) e.1 ∙ tokens_same names e.0 toks words in
-    let last : record { sign = sign_of new kind; at = at } ≡ token = ap (λ (k : ℕ). record { sign = sign_of new kind; at = k }) place in
+-- a piece is cut off the rest of a text, and its token goes last
+pub goes_on_more : (n : ℕ) (all : List ℕ) (rest : List ℕ) (behind : List ℕ) (names new : List (List ℕ)) (toks : List Tok) (kind : Kind) (at : ℕ) → ((ts : List Token) → Tokens n (chars rest) ts → Tokens n all (map (token_of names) toks ++ ts)) → AllByRecursion (λ t. IsWordIn names t.kind) toks → Extends names new → CutsOne (chars rest) (sign_of new kind) behind → IsUtf8 rest → at ≡ n - length rest → (ts : List Token) → Tokens n behind ts → Tokens n all (map (token_of new) (toks ++ record { kind = kind; at = at } ∷ []) ++ ts)
+goes_on_more n all rest behind names new toks kind at so known more piece utf8 at_is ts t =
+    let place : at ≡ n - length (Rattle.std.specs.Str.encode_utf8_all (chars rest)) = at_is ∙ ap (λ (m : ℕ). n - m) (sym (byte_count_is rest utf8)) in
+    let token : Token = token_at n (chars rest) (sign_of new kind) in
+    let here : Tokens n all (map (token_of names) toks ++ token ∷ ts) = so (token ∷ ts) (piece.cut n ts t) in
+    let olds : map (token_of new) toks ≡ map (token_of names) toks = ap (λ (ns : List (List ℕ)). map (token_of ns) toks) more.1 ∙ tokens_same names more.0 toks known in
+    let last : record { sign = sign_of new kind; at = at } ≡ token = ap (λ (m : ℕ). record { sign = sign_of new kind; at = m }) place in
     let whole : map (token_of new) (toks ++ record { kind = kind; at = at } ∷ []) ++ ts ≡ map (token_of names) toks ++ token ∷ ts =
     ap (λ (w : List Token). w ++ ts) (map-append (token_of new) toks (record { kind = kind; at = at } ∷ []))
     ∙ append_assoc (map (token_of new) toks) (record { sign = sign_of new kind; at = at } ∷ []) ts
     ∙ ap (λ (w : List Token). w ++ record { sign = sign_of new kind; at = at } ∷ ts) olds
     ∙ ap (λ (x : Token). map (token_of names) toks ++ x ∷ ts) last in
-    subst (λ (w : List Token). Tokens n source w) (sym whole) here
+    subst (λ (w : List Token). Tokens n all w) (sym whole) here
 
--- where no bytes are left, all tokens are there
-pub ends_here : (n : ℕ) (source rest : List ℕ) (toks : List Token) → length rest ≡ 0 → ((ts : List Token) → Tokens n rest ts → Tokens n source (toks ++ ts)) → Tokens n source toks
-ends_here n source [] toks none so = subst (λ (w : List Token). Tokens n source w) (append-nil toks) (so [] ends)
-ends_here n source (c ∷ cs) toks none so = absurd (omega arith)
+-- a comment gives no token
+pub goes_on_past : (n : ℕ) (all rest : List ℕ) (c : ℕ) (cs behind : List ℕ) (toks : List Token) → ((ts : List Token) → Tokens n rest ts → Tokens n all (toks ++ ts)) → rest ≡ c ∷ cs → c ≡ 37 → behind ≡ after_comment cs → (ts : List Token) → Tokens n behind ts → Tokens n all (toks ++ ts)
+goes_on_past n all rest c cs behind toks so is percent behind_is ts t =
+    let whole : rest ≡ 37 ∷ cs = is ∙ ap (λ (d : ℕ). d ∷ cs) percent in
+    so ts (subst (λ (r : List ℕ). Tokens n r ts) (sym whole) (comment (subst (λ (r : List ℕ). Tokens n r ts) behind_is t)))
 
--- a turn takes a byte at least for the word that it may add
-pub fewer_left : (old new n taken : ℕ) (rest : List ℕ) → old + length rest ≤ n → new ≤ old + 1 → 0 < taken → taken ≤ length rest → new + length (drop taken rest) ≤ n
-fewer_left old new n taken rest few one some within = let left : length (drop taken rest) ≡ length rest - taken = length-drop taken rest in omega arith
-
-pub list_all-drop : (p : ℕ → Bool) (xs : List ℕ) (k : ℕ) → list_all p xs ≡ true → list_all p (drop k xs) ≡ true
-list_all-drop p xs zero h = h
-list_all-drop p [] (suc k) h = refl
-list_all-drop p (x ∷ xs) (suc k) h = list_all-drop p xs k (second (p x) h)
-  where
-    second : (b : Bool) → (b && list_all p xs) ≡ true → list_all p xs ≡ true
-    second true e = e
-    second false e = absurd (false≢true e)
-
-all_known : (xs : List ℕ) → length xs ≤ position_or_len (λ c. not (is_known c)) xs → list_all is_known xs ≡ true
-all_known [] le = refl
-all_known (x ∷ xs) le = by_test (is_known x) refl (all_known xs)
-  where
-    by_test : (b : Bool) → is_known x ≡ b → (length xs ≤ position_or_len (λ c. not (is_known c)) xs → list_all is_known xs ≡ true) → list_all is_known (x ∷ xs) ≡ true
-    by_test true e h = rw e (h (let l = rw e at le in omega arith))
-    by_test false e h = absurd (let l = rw e at le in omega arith)
-
-pub none_unknown : (xs : List ℕ) → None ≡ position (λ c. not (is_known c)) xs → list_all is_known xs ≡ true
-none_unknown xs e = all_known xs (grind (arith, nat_tests))
+-- where no characters are left, all tokens are there
+pub ends_here : (n : ℕ) (all rest : List ℕ) (toks : List Token) → rest ≡ [] → ((ts : List Token) → Tokens n rest ts → Tokens n all (toks ++ ts)) → Tokens n all toks
+ends_here n all rest toks none so = subst (λ (w : List Token). Tokens n all w) (append-nil toks) (so [] (subst (λ (r : List ℕ). Tokens n r []) (sym none) ends))

@@ -1,66 +1,83 @@
--- How the bytes of a source are cut into tokens (Knuth, TeX: The Program, sections 343 to 356, with fixed category codes; the rule for gaps is this project's own).
-use Rattle.std.specs.Prelude.{◌≡◌, ◌≢◌, ℕ, ◌-◌, Bool, true, false, ◌&&◌, ◌||◌, not, ◌==◌, nat_le, if◌then◌else◌, List, [], ◌∷◌, length, drop, Option, option_map}
-use Rattle.std.specs.List.{prefix_len, take_while, position}
-use Rattle.tk_token.specs.declared.Code.TheVariants.{Unbuilt}
-use Rattle.tk_token.specs.declared.Fault.{Fault}
+-- How the characters of a source are cut into tokens (Knuth, TeX: The Program, sections 343 to 356, with fixed category codes; the rules for gaps and comments are this project's own).
+use Rattle.std.specs.Prelude.{◌≡◌, ◌≢◌, ℕ, ◌-◌, Bool, true, false, ◌&&◌, ◌||◌, not, ◌==◌, nat_le, if◌then◌else◌, List, [], ◌∷◌, length, drop}
+use Rattle.std.specs.List.{prefix_len, take_while, after_first}
+use Rattle.std.specs.Str.{encode_utf8_all}
 use Rattle.tk_token.specs.Token.{Sign, A_char, A_word, A_symbol, Opens, Closes, A_param, A_space, Token}
+use Rattle.tk_token.specs.Places.{is_line_end}
 
--- a blank is a space or a line end
+-- a space or a tab
+abbrev pub is_indent : ℕ → Bool
+is_indent c = c == 32 || c == 9
+
+-- a blank is a space, a tab, a CR or an LF
 abbrev pub is_blank : ℕ → Bool
-is_blank c = c == 32 || c == 10
+is_blank c = is_indent c || c == 13 || c == 10
 
 -- `a` to `z`, `A` to `Z`
 abbrev pub is_letter : ℕ → Bool
 is_letter c = (nat_le 97 c && nat_le c 122) || (nat_le 65 c && nat_le c 90)
 
--- a line end, or a character from the space to `~` that is no `%`
-abbrev pub is_known : ℕ → Bool
-is_known c = (c == 10 || (nat_le 32 c && nat_le c 126)) && not (c == 37)
-
--- any other byte
-abbrev pub is_unknown : ℕ → Bool
-is_unknown c = not (is_known c)
-
--- the fault of a form that isn't built
-abbrev pub unbuilt_at : ℕ → Fault
-unbuilt_at at = record { code = Unbuilt; at = at }
-
--- a source has the fault Unbuilt at its first byte that isn't known
-abbrev pub fault_in : List ℕ → Option Fault
-fault_in source = option_map unbuilt_at (position is_unknown source)
+-- what stands after the characters in front that pass
+abbrev pub after_while : (ℕ → Bool) → List ℕ → List ℕ
+after_while passes cs = drop (prefix_len passes cs) cs
 
 -- the letters in front
 abbrev pub letters_of : List ℕ → List ℕ
-letters_of bytes = take_while is_letter bytes
+letters_of cs = take_while is_letter cs
 
 -- what stands after the letters in front
 abbrev pub after_letters : List ℕ → List ℕ
-after_letters bytes = drop (prefix_len is_letter bytes) bytes
+after_letters cs = after_while is_letter cs
 
--- what stands after the blanks in front
-abbrev pub after_blanks : List ℕ → List ℕ
-after_blanks bytes = drop (prefix_len is_blank bytes) bytes
+-- what stands after a comment, of what stands after its `%`: the comment goes to the end of its line, and has the spaces and tabs after that
+abbrev pub after_comment : List ℕ → List ℕ
+after_comment cs = after_while is_indent (after_first is_line_end cs)
 
--- something other than a blank stands in front
-abbrev pub begins_word_or_symbol : List ℕ → Bool
-begins_word_or_symbol [] = false
-begins_word_or_symbol (c ∷ cs) = not (is_blank c)
+-- what stands after a gap, or after what is left of it in a comment: 37 is `%`
+abbrev pub gap_end : Bool → List ℕ → List ℕ
+gap_end in_comment [] = []
+gap_end true (c ∷ cs) = gap_end (not (is_line_end c)) cs
+gap_end false (c ∷ cs) = if is_blank c then gap_end false cs else (if c == 37 then gap_end true cs else c ∷ cs)
+
+-- what stands after the blanks and comments in front
+abbrev pub after_gap : List ℕ → List ℕ
+after_gap cs = gap_end false cs
+
+-- an LF stands in front
+abbrev pub begins_line_feed : List ℕ → Bool
+begins_line_feed [] = false
+begins_line_feed (c ∷ cs) = c == 10
+
+-- with what stands after it a `\` is the control space: a space, a tab, a line end, which is an LF or a CR with an LF directly after it, or nothing
+abbrev pub makes_space : List ℕ → Bool
+makes_space [] = true
+makes_space (c ∷ cs) = is_indent c || c == 10 || (c == 13 && begins_line_feed cs)
 
 -- the sign of a single character: `{`, `}`, `#`, or a character that stands for itself
 abbrev pub single : ℕ → Sign
 single c = if c == 123 then Opens else (if c == 125 then Closes else (if c == 35 then A_param else A_char c))
 
--- The tokens of bytes that are the last ones of n. A token stands where its bytes begin; 92 is `\`.
+-- how many bytes characters have
+abbrev pub byte_count : List ℕ → ℕ
+byte_count cs = length (encode_utf8_all cs)
+
+-- the token that stands in front of the last characters of n bytes: its place is how many bytes stand before it
+abbrev pub token_at : ℕ → List ℕ → Sign → Token
+token_at n cs sign = record { sign = sign; at = n - byte_count cs }
+
+-- The tokens of characters that are the last ones of n bytes. 92 is `\`.
 pub data Tokens (n : ℕ) : List ℕ → List Token → Type 0 where
-  -- no bytes, no tokens
+  -- no characters, no tokens
   ends : Tokens n [] []
-  -- a gap, as long as it can be, is one space
-  gap : {c : ℕ} {cs : List ℕ} {ts : List Token} → is_blank c ≡ true → Tokens n (after_blanks cs) ts → Tokens n (c ∷ cs) (record { sign = A_space; at = n - length (c ∷ cs) } ∷ ts)
+  -- a comment that no blank of its gap stands before gives no token
+  comment : {cs : List ℕ} {ts : List Token} → Tokens n (after_comment cs) ts → Tokens n (37 ∷ cs) ts
+  -- the first blank of a gap outside its comments is one space; what follows in the gap gives no token
+  gap : {c : ℕ} {cs : List ℕ} {ts : List Token} → is_blank c ≡ true → Tokens n (after_gap cs) ts → Tokens n (c ∷ cs) (token_at n (c ∷ cs) A_space ∷ ts)
   -- `\` and letters, as many as there are; the gap after them gives no token
-  word : {c : ℕ} {cs : List ℕ} {ts : List Token} → is_letter c ≡ true → Tokens n (after_blanks (after_letters (c ∷ cs))) ts → Tokens n (92 ∷ c ∷ cs) (record { sign = A_word (letters_of (c ∷ cs)); at = n - length (92 ∷ c ∷ cs) } ∷ ts)
-  -- `\` before a blank or at the end; the gap after it gives no token
-  control_space : {cs : List ℕ} {ts : List Token} → begins_word_or_symbol cs ≡ false → Tokens n (after_blanks cs) ts → Tokens n (92 ∷ cs) (record { sign = A_symbol 32; at = n - length (92 ∷ cs) } ∷ ts)
-  -- `\` and a character that is neither a letter nor a blank
-  symbol : {c : ℕ} {cs : List ℕ} {ts : List Token} → is_letter c ≡ false → is_blank c ≡ false → Tokens n cs ts → Tokens n (92 ∷ c ∷ cs) (record { sign = A_symbol c; at = n - length (92 ∷ c ∷ cs) } ∷ ts)
+  word : {c : ℕ} {cs : List ℕ} {ts : List Token} → is_letter c ≡ true → Tokens n (after_gap (after_letters (c ∷ cs))) ts → Tokens n (92 ∷ c ∷ cs) (token_at n (92 ∷ c ∷ cs) (A_word (letters_of (c ∷ cs))) ∷ ts)
+  -- `\` before a space, a tab, a line end or the end; the gap after it gives no token
+  control_space : {cs : List ℕ} {ts : List Token} → makes_space cs ≡ true → Tokens n (after_gap cs) ts → Tokens n (92 ∷ cs) (token_at n (92 ∷ cs) (A_symbol 32) ∷ ts)
+  -- `\` and any other character
+  symbol : {c : ℕ} {cs : List ℕ} {ts : List Token} → is_letter c ≡ false → makes_space (c ∷ cs) ≡ false → Tokens n cs ts → Tokens n (92 ∷ c ∷ cs) (token_at n (92 ∷ c ∷ cs) (A_symbol c) ∷ ts)
   -- any other character
-  other : {c : ℕ} {cs : List ℕ} {ts : List Token} → is_blank c ≡ false → c ≢ 92 → Tokens n cs ts → Tokens n (c ∷ cs) (record { sign = single c; at = n - length (c ∷ cs) } ∷ ts)
+  other : {c : ℕ} {cs : List ℕ} {ts : List Token} → is_blank c ≡ false → c ≢ 37 → c ≢ 92 → Tokens n cs ts → Tokens n (c ∷ cs) (token_at n (c ∷ cs) (single c) ∷ ts)

@@ -1,5 +1,6 @@
 pub mod Answers
 pub mod Cutting
+pub mod Faults
 pub mod Fix
 pub mod Pieces
 pub mod Places

@@ -1,10 +1,8 @@
--- The piece in front of bytes.
-use Rattle.std.specs.Prelude.{◌<◌, ◌≤◌, ℕ, ◌-◌, List, ◌∷◌, length, drop}
+-- The piece in front of characters.
+use Rattle.std.specs.Prelude.{ℕ, List, ◌∷◌}
 use Rattle.tk_token.specs.Token.{Sign, Token}
-use Rattle.tk_token.specs.Cutting.{Tokens}
+use Rattle.tk_token.specs.Cutting.{token_at, Tokens}
 
--- the first bytes, so many, are the piece of that sign
-pub record CutsOne (bytes : List ℕ) (sign : Sign) (taken : ℕ) : Type 0 where
-  pub some : 0 < taken
-  pub within : taken ≤ length bytes
-  pub cut : (n : ℕ) (ts : List Token) → Tokens n (drop taken bytes) ts → Tokens n bytes (record { sign = sign; at = n - length bytes } ∷ ts)
+-- the piece in front is the token of that sign, and the rest stands after it and what gives no token after it
+pub record CutsOne (cs : List ℕ) (sign : Sign) (rest : List ℕ) : Type 0 where
+  pub cut : (n : ℕ) (ts : List Token) → Tokens n rest ts → Tokens n cs (token_at n cs sign ∷ ts)

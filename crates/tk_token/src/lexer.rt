@@ -1,14 +1,17 @@
-//! Cutting the bytes of a source into tokens.
+//! Cutting the characters of a source into tokens.
 
-ghost use Rattle.std.specs.Prelude.{◌∷◌, ◌≡◌, ℕ, ◌+◌, ◌<◌, ◌≤◌, List, length, map, not, true, None, Some, IfOk, OnOk, MatchResult};
-ghost use Rattle.std.specs.List.{All, prefix_len, list_all, position};
-ghost use Rattle.tk_token.specs.Cutting.{is_blank, is_letter, is_known, is_unknown, single, fault_in, Tokens};
+ghost use Rattle.std.specs.Prelude.{◌∷◌, ◌≡◌, ◌≢◌, ℕ, ◌+◌, ◌<◌, ◌≤◌, List, [], length, map, chars, not, true, None, Some, Ok, Err, IfOk, IfErr, IfSome, OnOk, MatchOption, IsUtf8};
+ghost use Rattle.std.specs.List.{All, after_first};
+ghost use Rattle.tk_token.specs.Cutting.{is_indent, is_blank, is_letter, letters_of, after_letters, after_comment, after_gap, begins_line_feed, makes_space, single, Tokens};
+ghost use Rattle.tk_token.specs.Faults.{after_mark, Lexes};
 ghost use Rattle.tk_token.specs.Pieces.{CutsOne};
+ghost use Rattle.tk_token.specs.Places.{is_line_end};
 ghost use Rattle.tk_token.specs.Refusals.{OnFault};
 ghost use Rattle.tk_token.specs.Token.{token_of, sign_of, IsWordIn, IsNoArg, Extends};
 ghost use Rattle.tk_token.specs.Words.{EachOnce};
 
-use crate::{Code, Fault, Kind, Names, Refusal, Tok};
+use crate::faults::{balanced, text_of};
+use crate::{Kind, Names, Refusal, Tok};
 use std::alloc::{AllocError, Global};
 
 /// The tokens of a source, and the words that they name.
@@ -18,12 +21,15 @@ pub struct Lexed {
     pub names: Names,
 }
 
-/// Cuts a source into its tokens, in time linear in its length. The bytes may be LF and the characters from the space
-/// to `~`, without `%`; the first byte outside these is refused as `Unbuilt`.
+/// Cuts a source into its tokens, in time linear in its length.
+///
+/// A source is refused at its first fault. `NotUtf8` is asked of the whole source first, then `BadChar`; then, in
+/// reading order, `Brace` at a `}` too many and `TooDeep` at a 257th open `{`; then `Brace` at the innermost `{` that is
+/// left open.
 pub fn lex(alloc: Global, source: &[u8]) -> Result<Lexed, Refusal>
     requires { length source.now ≤ 16777216 }
-    ensures tokens { IfOk result (λ lexed. Tokens (length source.now) source.now (map (token_of lexed.names) lexed.toks.items)) }
-    ensures fault { MatchResult result (λ _. fault_in source.now ≡ None) (λ refusal. OnFault refusal (λ fault. fault_in source.now ≡ Some fault)) }
+    ensures tokens { IfOk result (λ lexed. Lexes source.now (Ok (map (token_of lexed.names) lexed.toks.items))) }
+    ensures fault { IfErr result (λ refusal. OnFault refusal (λ fault. Lexes source.now (Err fault))) }
 
     // A word is the number of one of the names, which are each there once; no token is the place of an argument.
     ensures words { IfOk result (λ lexed. All (λ tok. IsWordIn lexed.names tok.kind) lexed.toks.items) }
@@ -32,171 +38,247 @@ pub fn lex(alloc: Global, source: &[u8]) -> Result<Lexed, Refusal>
     ensures no_arg { IfOk result (λ lexed. All (λ tok. IsNoArg tok.kind) lexed.toks.items) }
     ensures places { IfOk result (λ lexed. All (λ tok. tok.at < length source.now) lexed.toks.items) }
 {
-    if let Some(at) = first_unknown(source) {
-        return Err(Refusal::Fault(Fault {
-            code: Code::Unbuilt,
-            at: at as u32,
-        }));
-    }
-    Ok(cut(alloc, source)?)
+    let text = text_of(source)?;
+    let lexed = cut(alloc, text)?;
+    balanced(alloc, &lexed.toks)?;
+    Ok(lexed)
 }
 
-/// Where the first byte stands that isn't known.
-fn first_unknown(source: &[u8]) -> Option<usize>
-    ensures { result ≡ position is_unknown source.now }
-{
-    source.iter().position(|byte| !is_known_byte(*byte))
-}
-
-/// The tokens of a source of known bytes.
-fn cut(alloc: Global, source: &[u8]) -> Result<Lexed, AllocError>
-    requires short { length source.now ≤ 16777216 }
-    requires known { list_all is_known source.now ≡ true }
-    ensures tokens { IfOk result (λ lexed. Tokens (length source.now) source.now (map (token_of lexed.names) lexed.toks.items)) }
+/// The tokens of a text.
+fn cut(alloc: Global, text: &str) -> Result<Lexed, AllocError>
+    requires short { length text.now ≤ 16777216 }
+    ensures tokens { IfOk result (λ lexed. Tokens (length text.now) (after_mark (chars text.now)) (map (token_of lexed.names) lexed.toks.items)) }
     ensures words { IfOk result (λ lexed. All (λ tok. IsWordIn lexed.names tok.kind) lexed.toks.items) }
     ensures once { IfOk result (λ lexed. EachOnce lexed.names) }
-    ensures few { IfOk result (λ lexed. length lexed.names ≤ length source.now) }
+    ensures few { IfOk result (λ lexed. length lexed.names ≤ length text.now) }
 {
     let mut toks = Vec::new(alloc);
     let mut names = Names::new(alloc);
-    let mut rest = source;
-    while let Some((first, tail)) = rest.split_first() {
-        let at = (source.len() - rest.len()) as u32;
-        let (kind, taken) = next_kind(&mut names, *first, tail)?;
+    let mut rest = without_mark(text);
+    while let Some((first, tail)) = split_first(rest) {
+        if first == '%' {
+            rest = after_comment(tail);
+            continue;
+        }
+        let at = (text.len() - rest.len()) as u32;
+        let (kind, behind) = next_kind(&mut names, first, tail)?;
         toks.push(Tok { kind, at })?;
-        rest = &rest[taken..];
+        rest = behind;
     }
     Ok(Lexed { toks, names })
 }
 
-/// The token in front, which is made of the first bytes, as many as the answer says.
+/// A text without the byte order mark in front.
+fn without_mark(text: &str) -> &str
+    ensures value { chars result.now ≡ after_mark (chars text.now) }
+    ensures within { length result.now ≤ length text.now }
+{
+    match split_first(text) {
+        Some(('\u{feff}', tail)) => tail,
+        _ => text,
+    }
+}
+
+/// The first character of a text, and what stands after it.
+pub(crate) fn split_first(text: &str) -> Option<(char, &str)>
+    ensures value { MatchOption result (chars text.now ≡ []) (λ parts. chars text.now ≡ parts.0 ∷ chars parts.1.now) }
+    ensures text { IfSome result (λ parts. IsUtf8 parts.1.now) }
+    ensures within { IfSome result (λ parts. length parts.1.now < length text.now) }
+{
+    let mut chars = text.chars();
+    let first = chars.next()?;
+    Some((first, chars.as_str()))
+}
+
+/// The token in front, and what stands after what it takes with it.
 #[tactic(auto, using(crate::proofs::Cuts::cuts))]
-fn next_kind(names: &mut Names, first: u8, tail: &[u8]) -> Result<(Kind, usize), AllocError>
+fn next_kind<'s>(
+    names: &mut Names,
+    first: char,
+    tail: &'s str,
+) -> Result<(Kind, &'s str), AllocError>
     requires room { length names.old < 4294967295 }
-    requires known { first < 128 }
-    requires tail { list_all is_known tail.now ≡ true }
-    ensures cuts { IfOk result (λ found. CutsOne (first ∷ tail.now) (sign_of names.new found.0) found.1) }
+    requires piece { first ≢ 37 }
+    ensures cuts { IfOk result (λ found. CutsOne (first ∷ chars tail.now) (sign_of names.new found.0) (chars found.1.now)) }
+    ensures text { IfOk result (λ found. IsUtf8 found.1.now) }
+    ensures within { IfOk result (λ found. length found.1.now ≤ length tail.now) }
     ensures word { IfOk result (λ found. IsWordIn names.new found.0) }
     ensures names { OnOk result (Extends names.old names.new) }
     ensures few { OnOk result (length names.new ≤ length names.old + 1) }
     ensures once { OnOk result (EachOnce names.old → EachOnce names.new) }
 {
-    if is_blank_byte(first) {
-        return Ok((Kind::Space, 1 + blanks_len(tail)));
+    if is_blank(first) {
+        return Ok((Kind::Space, after_gap(tail)));
     }
-    if first == b'\\' {
+    if first == '\\' {
         return next_control(names, tail);
     }
-    Ok((single_kind(first), 1))
+    Ok((single_kind(first), tail))
 }
 
 /// The token of a `\` and of what stands after it.
 #[tactic(auto, using(crate::proofs::Cuts::cuts))]
-fn next_control(names: &mut Names, tail: &[u8]) -> Result<(Kind, usize), AllocError>
+fn next_control<'s>(names: &mut Names, tail: &'s str) -> Result<(Kind, &'s str), AllocError>
     requires room { length names.old < 4294967295 }
-    requires tail { list_all is_known tail.now ≡ true }
-    ensures cuts { IfOk result (λ found. CutsOne (92 ∷ tail.now) (sign_of names.new found.0) found.1) }
+    ensures cuts { IfOk result (λ found. CutsOne (92 ∷ chars tail.now) (sign_of names.new found.0) (chars found.1.now)) }
+    ensures text { IfOk result (λ found. IsUtf8 found.1.now) }
+    ensures within { IfOk result (λ found. length found.1.now ≤ length tail.now) }
     ensures word { IfOk result (λ found. IsWordIn names.new found.0) }
     ensures names { OnOk result (Extends names.old names.new) }
     ensures few { OnOk result (length names.new ≤ length names.old + 1) }
     ensures once { OnOk result (EachOnce names.old → EachOnce names.new) }
 {
-    let Some((second, more)) = tail.split_first() else {
-        return Ok((Kind::Symbol(' '), 1));
-    };
-    if is_blank_byte(*second) {
-        return Ok((Kind::Symbol(' '), 2 + blanks_len(more)));
+    if makes_space(tail) {
+        return Ok((Kind::Symbol(' '), after_gap(tail)));
     }
-    if is_letter_byte(*second) {
-        return next_word(names, tail);
+    match split_first(tail) {
+        Some((second, more)) => {
+            if is_letter(second) {
+                next_word(names, tail)
+            } else {
+                Ok((Kind::Symbol(second), more))
+            }
+        }
+        None => unreachable!(),
     }
-    Ok((Kind::Symbol(char::from(*second)), 2))
 }
 
 /// The token of a word, whose letters stand in front.
-fn next_word(names: &mut Names, tail: &[u8]) -> Result<(Kind, usize), AllocError>
+fn next_word<'s>(names: &mut Names, tail: &'s str) -> Result<(Kind, &'s str), AllocError>
     requires room { length names.old < 4294967295 }
-    requires letter { (c : ℕ) × (cs : List ℕ) × (tail.now ≡ c ∷ cs) × (is_letter c ≡ true) }
-    ensures cuts { IfOk result (λ found. CutsOne (92 ∷ tail.now) (sign_of names.new found.0) found.1) }
+    requires letter { (c : ℕ) × (cs : List ℕ) × (chars tail.now ≡ c ∷ cs) × (is_letter c ≡ true) }
+    ensures cuts { IfOk result (λ found. CutsOne (92 ∷ chars tail.now) (sign_of names.new found.0) (chars found.1.now)) }
+    ensures text { IfOk result (λ found. IsUtf8 found.1.now) }
+    ensures within { IfOk result (λ found. length found.1.now ≤ length tail.now) }
     ensures word { IfOk result (λ found. IsWordIn names.new found.0) }
     ensures names { OnOk result (Extends names.old names.new) }
     ensures few { OnOk result (length names.new ≤ length names.old + 1) }
     ensures once { OnOk result (EachOnce names.old → EachOnce names.new) }
 {
-    let (word, after) = tail.split_at(letters_len(tail));
-    let number = names.add(word_of(word))?;
-    Ok((Kind::Word(number), 1 + word.len() + blanks_len(after)))
+    let (word, after) = split_letters(tail);
+    let number = names.add(word)?;
+    Ok((Kind::Word(number), after_gap(after)))
 }
 
-/// Letters as a text.
-fn word_of(letters: &[u8]) -> &str
-    requires { list_all is_letter letters.now ≡ true }
-    ensures { result.now ≡ letters.now }
+/// The letters in front of a text, and what stands after them.
+fn split_letters(text: &str) -> (&str, &str)
+    ensures letters { result.0.now ≡ letters_of (chars text.now) }
+    ensures after { chars result.1.now ≡ after_letters (chars text.now) }
+    ensures text { IsUtf8 result.0.now × IsUtf8 result.1.now }
+    ensures within { length result.1.now ≤ length text.now }
 {
-    match str::from_utf8(letters) {
-        Ok(word) => word,
-        Err(_) => unreachable!(),
+    let after = after_letters(text);
+    text.split_at(text.len() - after.len())
+}
+
+/// What stands after the letters in front.
+fn after_letters(text: &str) -> &str
+    ensures value { chars result.now ≡ after_letters (chars text.now) }
+    ensures within { length result.now ≤ length text.now }
+{
+    let mut rest = text;
+    while let Some((first, tail)) = split_first(rest) {
+        if !is_letter(first) {
+            break;
+        }
+        rest = tail;
+    }
+    rest
+}
+
+/// What stands after the blanks and comments in front.
+fn after_gap(text: &str) -> &str
+    ensures value { chars result.now ≡ after_gap (chars text.now) }
+    ensures within { length result.now ≤ length text.now }
+{
+    let mut rest = text;
+    while let Some((first, tail)) = split_first(rest) {
+        if is_blank(first) {
+            rest = tail;
+        } else if first == '%' {
+            rest = after_line(tail);
+        } else {
+            break;
+        }
+    }
+    rest
+}
+
+/// What stands after a comment, of what stands after its `%`.
+fn after_comment(text: &str) -> &str
+    ensures value { chars result.now ≡ after_comment (chars text.now) }
+    ensures within { length result.now ≤ length text.now }
+{
+    let mut rest = after_line(text);
+    while let Some((first, tail)) = split_first(rest) {
+        if !is_indent(first) {
+            break;
+        }
+        rest = tail;
+    }
+    rest
+}
+
+/// What stands after the first line end, or nothing.
+fn after_line(text: &str) -> &str
+    ensures value { chars result.now ≡ after_first is_line_end (chars text.now) }
+    ensures within { length result.now ≤ length text.now }
+{
+    match text.split_once('\n') {
+        Some((_, after)) => after,
+        None => "",
+    }
+}
+
+/// Whether `\` is the control space with what stands after it.
+fn makes_space(text: &str) -> bool
+    ensures { result ≡ makes_space (chars text.now) }
+{
+    match split_first(text) {
+        Some((first, more)) => {
+            is_indent(first) || first == '\n' || (first == '\r' && begins_line_feed(more))
+        }
+        None => true,
+    }
+}
+
+/// Whether an LF stands in front.
+fn begins_line_feed(text: &str) -> bool
+    ensures { result ≡ begins_line_feed (chars text.now) }
+{
+    match split_first(text) {
+        Some((first, _)) => first == '\n',
+        None => false,
     }
 }
 
 /// The token of a single character.
-fn single_kind(byte: u8) -> Kind
-    requires { byte < 128 }
-    ensures sign { (names : List (List ℕ)) → sign_of names result ≡ single byte }
+fn single_kind(character: char) -> Kind
+    ensures sign { (names : List (List ℕ)) → sign_of names result ≡ single character }
     ensures no_word { (names : List (List ℕ)) → IsWordIn names result }
 {
-    match byte {
-        b'{' => Kind::Open,
-        b'}' => Kind::Close,
-        b'#' => Kind::Param,
-        _ => Kind::Char(char::from(byte)),
+    match character {
+        '{' => Kind::Open,
+        '}' => Kind::Close,
+        '#' => Kind::Param,
+        _ => Kind::Char(character),
     }
 }
 
-/// How many letters stand in front.
-fn letters_len(bytes: &[u8]) -> usize
-    ensures value { result ≡ prefix_len is_letter bytes.now }
-    ensures within { result ≤ length bytes.now }
+fn is_letter(character: char) -> bool
+    ensures { result ≡ is_letter character }
 {
-    first_non_letter(bytes).unwrap_or(bytes.len())
+    character.is_ascii_alphabetic()
 }
 
-/// Where the first byte stands that is no letter.
-fn first_non_letter(bytes: &[u8]) -> Option<usize>
-    ensures { result ≡ position (λ c. not (is_letter c)) bytes.now }
+fn is_blank(character: char) -> bool
+    ensures { result ≡ is_blank character }
 {
-    bytes.iter().position(|byte| !is_letter_byte(*byte))
+    is_indent(character) || character == '\r' || character == '\n'
 }
 
-/// How many blanks stand in front.
-fn blanks_len(bytes: &[u8]) -> usize
-    ensures value { result ≡ prefix_len is_blank bytes.now }
-    ensures within { result ≤ length bytes.now }
+fn is_indent(character: char) -> bool
+    ensures { result ≡ is_indent character }
 {
-    first_non_blank(bytes).unwrap_or(bytes.len())
-}
-
-/// Where the first byte stands that is no blank.
-fn first_non_blank(bytes: &[u8]) -> Option<usize>
-    ensures { result ≡ position (λ c. not (is_blank c)) bytes.now }
-{
-    bytes.iter().position(|byte| !is_blank_byte(*byte))
-}
-
-fn is_letter_byte(byte: u8) -> bool
-    ensures { result ≡ is_letter byte }
-{
-    byte.is_ascii_alphabetic()
-}
-
-fn is_blank_byte(byte: u8) -> bool
-    ensures { result ≡ is_blank byte }
-{
-    byte == b' ' || byte == b'\n'
-}
-
-fn is_known_byte(byte: u8) -> bool
-    ensures { result ≡ is_known byte }
-{
-    (byte == b'\n' || (b' ' <= byte && byte <= b'~')) && byte != b'%'
+    character == ' ' || character == '\t'
 }

@@ -1,6 +1,7 @@
 //! Tokens: how the bytes of a source are cut, the words that tokens name, and the faults that stand at their places.
 #![tactic(auto)]
 
+mod faults;
 mod laws;
 mod lexer;
 mod names;
@@ -9,15 +10,14 @@ mod positions;
 mod tests;
 
 pub use laws::{
-    a_source_without_fault_is_text, all_bytes_have_tokens, bytes_have_one_list_of_tokens,
-    what_stands_before_a_fault_is_text,
+    a_source_lexes_in_one_way, a_source_without_fault_is_text, all_characters_have_tokens,
+    characters_have_one_list_of_tokens, each_source_lexes, what_stands_before_a_fault_is_text,
 };
 pub use lexer::{Lexed, lex};
 pub use names::Names;
 pub use positions::place;
 use std::alloc::AllocError;
 
-/// What a token is.
 #[derive(Clone, Copy, Debug, PartialEq, Eq)]
 pub enum Kind {
     /// A character that stands for itself.
@@ -38,32 +38,52 @@ pub enum Kind {
     Space,
 }
 
-/// A token, with the byte offset of its first byte.
 #[derive(Clone, Copy, Debug, PartialEq, Eq)]
 pub struct Tok {
     pub kind: Kind,
     pub at: u32,
 }
 
-/// What is wrong with a source.
 #[derive(Clone, Copy, Debug, PartialEq, Eq)]
 pub enum Code {
+    /// The bytes aren't UTF-8: at the first byte of a sequence that begins no character.
+    NotUtf8,
+    /// A control character that is no tab, CR or LF, or U+FFFE or U+FFFF.
+    BadChar,
+    /// A `}` too many, or else a `{` left open: the innermost one.
+    Brace,
+    /// A 257th open brace, or a 65th open parenthesis, call or `?` of an expression.
+    TooDeep,
     /// A value lies past 1,073,741,823 scaled points either way.
     TooLarge,
+    /// A divisor is zero.
+    DivZero,
+    /// A function has no value there.
+    Domain,
+    /// A text is no expression: at the first token that doesn't fit.
+    Expression,
+    /// A definition hasn't the form of one, or a name that is to be defined is no control word.
+    MacroSyntax,
+    /// A macro's argument is missing.
+    MacroArg,
+    /// More units would be paid than the budget has.
+    Budget,
+    /// A 129th level would open.
+    Levels,
+    /// A coordinate hasn't the form of one.
+    Coordinate,
     /// A file has more than 16,777,216 bytes.
     TooLong,
     /// The source has a form that isn't built.
     Unbuilt,
 }
 
-/// What is wrong, and at which byte offset.
 #[derive(Clone, Copy, Debug, PartialEq, Eq)]
 pub struct Fault {
     pub code: Code,
     pub at: u32,
 }
 
-/// Why a call that takes memory gave nothing.
 #[derive(Clone, Copy, Debug, PartialEq, Eq)]
 pub enum Refusal {
     Fault(Fault),

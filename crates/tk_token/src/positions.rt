@@ -5,6 +5,8 @@ ghost use Rattle.std.specs.List.{after_last};
 ghost use Rattle.std.specs.Str.{chars, IsUtf8};
 ghost use Rattle.tk_token.specs.Places.{is_line_end, line_of, column_of};
 
+use memchr::{memchr_iter, memrchr};
+
 /// The line and the column of a place in a source, both counted from 1. A line ends with an LF; a column counts
 /// characters, a byte order mark and a CR among them.
 pub fn place(source: &[u8], at: u32) -> (u32, u32)
@@ -25,7 +27,7 @@ fn line_ends(bytes: &[u8]) -> usize
     ensures value { result ≡ count_by is_line_end bytes.now }
     ensures within { result ≤ length bytes.now }
 {
-    bytes.iter().filter(|byte| **byte == b'\n').count()
+    memchr_iter(b'\n', bytes).count()
 }
 
 /// What stands after the last line end.
@@ -35,11 +37,10 @@ fn last_line(text: &[u8]) -> &[u8]
     ensures text { IsUtf8 result.now }
     ensures within { length result.now ≤ length text.now }
 {
-    let mut start = text.len();
-    while start > 0 && text[start - 1] != b'\n' {
-        start -= 1;
+    match memrchr(b'\n', text) {
+        Some(at) => &text[at + 1..],
+        None => text,
     }
-    &text[start..]
 }
 
 /// How many characters the bytes spell.

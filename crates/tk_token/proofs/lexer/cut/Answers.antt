@@ -1,31 +1,41 @@
-use Rattle.std.proofs.Common.{◌≡◌, ℕ, ◌+◌, ◌-◌, ◌≤◌, List, length, map, take, drop, true, ◌++◌, refl, sym, subst}
-use Rattle.std.specs.List.{AllByRecursion, list_all}
+use Rattle.std.proofs.Common.{◌++◌, List, length, map, refl, sym, subst, arith}
+use Rattle.std.specs.List.{AllByRecursion}
+use Rattle.std.specs.Str.{chars}
 use Rattle.tk_token.specs.declared.Tok.{Tok}
-use Rattle.tk_token.specs.Cutting.{is_known, Tokens}
+use Rattle.tk_token.specs.Cutting.{Tokens}
+use Rattle.tk_token.specs.Faults.{after_mark}
 use Rattle.tk_token.specs.Pieces.{CutsOne}
 use Rattle.tk_token.specs.Token.{sign_of, token_of, IsWordIn}
-use Rattle.tk_token.proofs.Fronts.{all_taken}
-use Rattle.tk_token.proofs.Loop.{words_more, goes_on_more, ends_here, list_all-drop, fewer_left}
+use Rattle.tk_token.proofs.Loop.{words_more, goes_on_more, goes_on_past, ends_here}
 use Rattle.tk_token.proofs.lexer.cut.Goals as goal
+
+pub loop-first-preserved-then-first-eq37 : goal.loop-first-preserved-then-first-eq37
+loop-first-preserved-then-first-eq37 c =
+    let so = c.loop-first.invariant in
+    record {
+      text = c.after_comment-rest.utf8;
+      few = omega (arith, so.few, c.in-Some.ensures.within, c.after_comment-rest.ensures.within);
+      once = so.once;
+      words = so.words;
+      goes_on = goes_on_past (length c.args.text.now) (after_mark (chars c.args.text.now)) (chars c.loop-first.rest.now) c.in-Some.first (chars c.in-Some.tail.now) (chars c.after_comment-rest.result.now) (map (token_of c.loop-first.names) c.loop-first.toks.items) so.goes_on c.in-Some.ensures.value c.if-first-eq37.true c.after_comment-rest.ensures.value;
+    }
 
 pub loop-first-preserved : goal.loop-first-preserved
 loop-first-preserved c =
     let so = c.loop-first.invariant in
-    let n = length c.args.source.now in
+    let n = length c.args.text.now in
     let rest = c.loop-first.rest.now in
-    let taken = c.in_ok-kind.taken in
     let new = c.next_kind.new.names in
-    let left : take (length rest - taken) (drop taken rest) ≡ drop taken rest = all_taken rest taken in
-    let cuts : CutsOne rest (sign_of new c.in_ok-kind.kind) taken = subst (λ (bytes : List ℕ). CutsOne bytes (sign_of new c.in_ok-kind.kind) taken) (sym c.in-Some.ensures.cases.0) c.in_ok-kind.ensures.cuts in
+    let piece : CutsOne (chars rest) (sign_of new c.in_ok-kind.kind) (chars c.in_ok-kind.behind.now) = subst (λ (cs : List _). CutsOne cs (sign_of new c.in_ok-kind.kind) (chars c.in_ok-kind.behind.now)) (sym c.in-Some.ensures.value) c.in_ok-kind.ensures.cuts in
     record {
-      known = subst (λ (bytes : List ℕ). list_all is_known bytes ≡ true) (sym left) (list_all-drop is_known rest taken so.known);
-      few = subst (λ (bytes : List ℕ). length new + length bytes ≤ n) (sym left) (fewer_left (length c.loop-first.names) (length new) n taken rest so.few c.in_ok-kind.ensures.few cuts.some cuts.within);
+      text = c.in_ok-kind.ensures.text;
+      few = omega (arith, so.few, c.in-Some.ensures.within, c.in_ok-kind.ensures.within, c.in_ok-kind.ensures.few);
       once = c.in_ok-kind.ensures.once so.once;
       words = subst (λ (toks : List Tok). AllByRecursion (λ t. IsWordIn new t.kind) toks) (sym c.in_ok-push.ensures.items) (words_more c.loop-first.names new c.loop-first.toks.items _ c.in_ok-kind.ensures.names so.words c.in_ok-kind.ensures.word);
       goes_on = λ ts t.
-          subst (λ (toks : List Tok). Tokens n c.args.source.now (map (token_of new) toks ++ ts)) (sym c.in_ok-push.ensures.items)
-          (goes_on_more n c.args.source.now rest c.loop-first.names new c.loop-first.toks.items c.in_ok-kind.kind _ taken so.goes_on so.words c.in_ok-kind.ensures.names cuts refl ts (subst (λ (bytes : List ℕ). Tokens n bytes ts) left t));
+          subst (λ (toks : List Tok). Tokens n (after_mark (chars c.args.text.now)) (map (token_of new) toks ++ ts)) (sym c.in_ok-push.ensures.items)
+          (goes_on_more n (after_mark (chars c.args.text.now)) rest (chars c.in_ok-kind.behind.now) c.loop-first.names new c.loop-first.toks.items c.in_ok-kind.kind _ so.goes_on so.words c.in_ok-kind.ensures.names piece so.text refl ts t);
     }
 
 pub returns-clause-tokens : goal.returns-clause-tokens
-returns-clause-tokens c = ends_here (length c.args.source.now) c.args.source.now c.loop-first.rest.now (map (token_of c.loop-first.names) c.loop-first.toks.items) c.in_default.ensures.cases c.loop-first.invariant.goes_on
+returns-clause-tokens c = ends_here (length c.args.text.now) (after_mark (chars c.args.text.now)) (chars c.loop-first.rest.now) (map (token_of c.loop-first.names) c.loop-first.toks.items) c.in_default.ensures.value c.loop-first.invariant.goes_on

@@ -1,0 +1,71 @@
+-- The braces among tokens.
+use Rattle.std.proofs.Common.{◌≡◌, ℕ, suc, ◌+◌, ◌-◌, ◌<◌, ◌≤◌, List, [], ◌∷◌, ◌++◌, length, map, reverse, drop, get_or, Some, None, Ok, Err, ap, subst, ◌∙◌, arith}
+use Rattle.std.specs.List.{slice_get}
+use Rattle.std.specs.Str.{chars}
+use Rattle.std.proofs.Math.Seq.{drop-cons}
+use Rattle.std.proofs.lemmas.List.{reverse-append, drop_all}
+use Rattle.tk_token.specs.declared.Code.TheVariants.{Brace}
+use Rattle.tk_token.specs.declared.Refusal.{Refusal}
+use Rattle.tk_token.specs.declared.Refusal.TheVariants.{OutOfMemory, Fault as Refused}
+use Rattle.tk_token.specs.declared.Tok.{Tok}
+use Rattle.tk_token.specs.Answers.{Answer, ◌>>=◌, fault}
+use Rattle.tk_token.specs.Refusals.{Fails, OnFault}
+use Rattle.tk_token.specs.Token.{Token, token_of, sign_of}
+use Rattle.tk_token.specs.Cutting.{Tokens}
+use Rattle.tk_token.specs.Faults.{after_mark, after_token, after_tokens, none_open, balanced, text_fault, Lexes, cut}
+use Rattle.tk_token.proofs.Answering.{fails_then, fails_as, then_is}
+
+-- the last of a list is the first of it the other way round
+pub last_reversed : (xs : List ℕ) (x : ℕ) → Some x ≡ slice_get xs (length xs - 1) → (others : List ℕ) × (reverse xs ≡ x ∷ others)
+last_reversed [] x e = absurd cc
+last_reversed (y ∷ []) x e = ([], cc)
+last_reversed (y ∷ z ∷ zs) x e =
+    let less : length (y ∷ z ∷ zs) - 1 ≡ suc (length (z ∷ zs) - 1) = omega arith in
+    let rest = last_reversed (z ∷ zs) x (e ∙ ap (slice_get (y ∷ z ∷ zs)) less) in
+    (rest.0 ++ y ∷ [], reverse-append (y ∷ []) (z ∷ zs) ∙ ap (λ (r : List ℕ). r ++ y ∷ []) rest.1)
+
+module _ (names : List (List ℕ)) (toks : List Tok) (i : ℕ) (d : Tok) (before : List ℕ) (within : i < length toks) where
+  -- the token at that place
+  abbrev pub tok : Tok
+  tok = get_or toks i d
+
+  -- the tokens from a place on
+  from_here : map (token_of names) (drop i toks) ≡ token_of names tok ∷ map (token_of names) (drop (i + 1) toks)
+  from_here =
+      let one : suc i ≡ i + 1 = omega arith in
+      ap (map (token_of names)) (drop-cons toks i d within ∙ ap (λ (n : ℕ). tok ∷ drop n toks) one)
+
+  told_here : after_tokens [] (map (token_of names) toks) ≡ after_tokens before (map (token_of names) (drop i toks)) → after_tokens [] (map (token_of names) toks) ≡ (after_token before (sign_of names tok.kind) tok.at >>= λ (after : List ℕ). after_tokens after (map (token_of names) (drop (i + 1) toks)))
+  told_here told = told ∙ ap (after_tokens before) from_here
+
+  -- one more token is taken
+  pub one_more : (after : List ℕ) → after_tokens [] (map (token_of names) toks) ≡ after_tokens before (map (token_of names) (drop i toks)) → after_token before (sign_of names tok.kind) tok.at ≡ Ok after → after_tokens [] (map (token_of names) toks) ≡ after_tokens after (map (token_of names) (drop (i + 1) toks))
+  one_more after told goes =
+      told_here told ∙ then_is (after_token before (sign_of names tok.kind) tok.at) (λ (after : List ℕ). after_tokens after (map (token_of names) (drop (i + 1) toks))) after goes
+
+  -- or is at fault
+  pub one_fails : (e : Refusal) → after_tokens [] (map (token_of names) toks) ≡ after_tokens before (map (token_of names) (drop i toks)) → Fails e (after_token before (sign_of names tok.kind) tok.at) → Fails e (balanced (map (token_of names) toks))
+  one_fails e told h =
+      let here : Answer (List ℕ) = after_token before (sign_of names tok.kind) tok.at >>= λ (after : List ℕ). after_tokens after (map (token_of names) (drop (i + 1) toks)) in
+      let all : List Token = map (token_of names) toks in
+      fails_as e (balanced all) (here >>= none_open all) (ap (λ (m : Answer (List ℕ)). m >>= none_open all) (told_here told))
+      (fails_then e here (none_open all) (fails_then e (after_token before (sign_of names tok.kind) tok.at) (λ (after : List ℕ). after_tokens after (map (token_of names) (drop (i + 1) toks))) h))
+
+-- a brace that is left open
+pub left_open : (names : List (List ℕ)) (toks : List Tok) (i : ℕ) (open_at : List ℕ) (at : ℕ) → length toks ≤ i → after_tokens [] (map (token_of names) toks) ≡ after_tokens (reverse open_at) (map (token_of names) (drop i toks)) → Some at ≡ slice_get open_at (length open_at - 1) → balanced (map (token_of names) toks) ≡ fault Brace at
+left_open names toks i open_at at done told last =
+    let outer = last_reversed open_at at last in
+    let all : List Token = map (token_of names) toks in
+    let none : map (token_of names) (drop i toks) ≡ [] = ap (map (token_of names)) (drop_all i toks done) in
+    let end : after_tokens [] all ≡ Ok (at ∷ outer.0) = told ∙ ap (after_tokens (reverse open_at)) none ∙ ap (λ (r : List ℕ). Ok r) outer.1 in
+    ap (λ (m : Answer (List ℕ)). m >>= none_open all) end
+
+-- ---- what a source lexes to
+
+module _ (source text : List ℕ) (toks : List Token) (is : text ≡ source) (none : text_fault source ≡ None) (t : Tokens (length text) (after_mark (chars text)) toks) where
+  pub lexes_as : (answer : Answer (List Token)) → balanced toks ≡ answer → Lexes source answer
+  lexes_as answer so = subst (Lexes source) so (cut none (subst (λ (s : List ℕ). Tokens (length s) (after_mark (chars s)) toks) is t))
+
+  pub lexes_fault : (e : Refusal) → Fails e (balanced toks) → OnFault e (λ f. Lexes source (Err f))
+  lexes_fault (Refused f) h = lexes_as (Err f) h
+  lexes_fault OutOfMemory h = tt

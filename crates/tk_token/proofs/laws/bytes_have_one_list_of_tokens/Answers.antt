@@ -1,5 +1,0 @@
-use Rattle.tk_token.proofs.Unique.{tokens_same}
-use Rattle.tk_token.proofs.laws.bytes_have_one_list_of_tokens.Goals as goal
-
-pub returns : goal.returns
-returns c = λ n bytes a b t u. tokens_same t u

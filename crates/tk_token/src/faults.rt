@@ -1,0 +1,94 @@
+//! The faults of a source.
+
+ghost use Rattle.std.specs.Prelude.{◌≡◌, ◌<◌, ◌≤◌, ◌∷◌, ◌++◌, [], ℕ, List, length, map, reverse, chars, None, Some, MatchResult, IfSome, OnOk};
+ghost use Rattle.tk_token.specs.Faults.{is_refused, first_place, text_fault, after_token, balanced};
+ghost use Rattle.tk_token.specs.Refusals.{Gives};
+ghost use Rattle.tk_token.specs.Token.{token_of, sign_of};
+
+use crate::lexer::split_first;
+use crate::{Code, Fault, Kind, Refusal, Tok};
+use std::alloc::{AllocError, Global};
+
+/// How many braces may be open.
+const MOST_OPEN: usize = 256;
+
+/// A source as text.
+pub(crate) fn text_of(source: &[u8]) -> Result<&str, Fault>
+    requires { length source.now ≤ 16777216 }
+    ensures { MatchResult result (λ text. (text.now ≡ source.now) × (text_fault source.now ≡ None)) (λ fault. text_fault source.now ≡ Some fault) }
+{
+    let text = match str::from_utf8(source) {
+        Ok(text) => text,
+        Err(error) => return Err(fault(Code::NotUtf8, error.valid_up_to() as u32)),
+    };
+    match first_refused(text) {
+        Some(at) => Err(fault(Code::BadChar, at as u32)),
+        None => Ok(text),
+    }
+}
+
+/// How many bytes stand before the first character that is refused.
+fn first_refused(text: &str) -> Option<usize>
+    ensures value { result ≡ first_place is_refused (chars text.now) }
+    ensures within { IfSome result (λ at. at < length text.now) }
+{
+    let mut rest = text;
+    while let Some((first, tail)) = split_first(rest) {
+        if is_refused(first) {
+            return Some(text.len() - rest.len());
+        }
+        rest = tail;
+    }
+    None
+}
+
+fn is_refused(character: char) -> bool
+    ensures { result ≡ is_refused character }
+{
+    matches!(character, '\0'..='\u{8}' | '\u{b}' | '\u{c}' | '\u{e}'..='\u{1f}' | '\u{fffe}' | '\u{ffff}')
+}
+
+/// Asks that braces balance, and that no more than 256 are open at once.
+pub(crate) fn balanced(alloc: Global, toks: &[Tok]) -> Result<(), Refusal>
+    ensures { (names : List (List ℕ)) → Gives (λ _. map (token_of names) toks.now) result (balanced (map (token_of names) toks.now)) }
+{
+    let mut open_at = Vec::new(alloc);
+    for tok in toks {
+        after_token(&mut open_at, *tok)?;
+    }
+    match open_at.last() {
+        Some(at) => Err(Refusal::Fault(fault(Code::Brace, *at))),
+        None => Ok(()),
+    }
+}
+
+/// Takes a token into the places of the braces that are open, the innermost of which is last.
+fn after_token(open_at: &mut Vec<u32>, tok: Tok) -> Result<(), Refusal>
+    ensures { (names : List (List ℕ)) → Gives (λ _. reverse open_at.new.items) result (after_token (reverse open_at.old.items) (sign_of names tok.kind) tok.at) }
+{
+    match tok.kind {
+        Kind::Open => {
+            if open_at.len() == MOST_OPEN {
+                return Err(Refusal::Fault(fault(Code::TooDeep, tok.at)));
+            }
+            Ok(add(open_at, tok.at)?)
+        }
+        Kind::Close => match open_at.pop() {
+            Some(_) => Ok(()),
+            None => Err(Refusal::Fault(fault(Code::Brace, tok.at))),
+        },
+        _ => Ok(()),
+    }
+}
+
+fn add(open_at: &mut Vec<u32>, at: u32) -> Result<(), AllocError>
+    ensures { OnOk result (open_at.new.items ≡ open_at.old.items ++ at ∷ []) }
+{
+    Ok(open_at.push(at)?)
+}
+
+fn fault(code: Code, at: u32) -> Fault
+    ensures { result ≡ record { code = code; at = at } }
+{
+    Fault { code, at }
+}
