@@ -10,6 +10,7 @@ use Rattle.tk_token.specs.Token.{Sign, Token, sign_of, token_of, IsWordIn, Exten
 use Rattle.std.specs.Str.{chars, IsUtf8}
 use Rattle.tk_token.specs.Cutting.{token_at, after_comment, Tokens, ends, comment}
 use Rattle.tk_token.specs.Pieces.{CutsOne}
+use Rattle.tk_token.specs.Words.{with_sign, with_tokens, words_of}
 use Rattle.tk_token.proofs.Texts.{byte_count_is}
 
 -- a word that is there keeps its meaning when words are added
@@ -45,6 +46,18 @@ word_kept names words Space h = tt
 pub words_more : (names new : List (List ℕ)) (toks : List Tok) (tok : Tok) → Extends names new → AllByRecursion (λ t. IsWordIn names t.kind) toks → IsWordIn new tok.kind → AllByRecursion (λ t. IsWordIn new t.kind) (toks ++ tok ∷ [])
 words_more names new [] tok e h w = (w, tt)
 words_more names new (t ∷ ts) tok e h w = (subst (λ ns. IsWordIn ns t.kind) (sym e.1) (word_kept names e.0 t.kind h.0), words_more names new ts tok e h.1 w)
+
+-- the words of one more token
+with_last : (words : List (List ℕ)) (ts : List Token) (t : Token) → with_tokens words (ts ++ t ∷ []) ≡ with_sign (with_tokens words ts) t.sign
+with_last words [] t = refl
+with_last words (u ∷ us) t = with_last (with_sign words u.sign) us t
+
+pub listed_more : (names new : List (List ℕ)) (toks : List Tok) (tok : Tok) → names ≡ words_of (map (token_of names) toks) → Extends names new → AllByRecursion (λ t. IsWordIn names t.kind) toks → new ≡ with_sign names (sign_of new tok.kind) → new ≡ words_of (map (token_of new) (toks ++ tok ∷ []))
+listed_more names new toks tok listed more known grown =
+    let olds : map (token_of new) toks ≡ map (token_of names) toks = ap (λ (ns : List (List ℕ)). map (token_of ns) toks) more.1 ∙ tokens_same names more.0 toks known in
+    grown
+    ∙ ap (λ (ws : List (List ℕ)). with_sign ws (sign_of new tok.kind)) (listed ∙ ap words_of (sym olds))
+    ∙ sym (ap words_of (map-append (token_of new) toks (tok ∷ [])) ∙ with_last [] (map (token_of new) toks) (token_of new tok))
 
 -- a piece is cut off the rest of a text, and its token goes last
 pub goes_on_more : (n : ℕ) (all : List ℕ) (rest : List ℕ) (behind : List ℕ) (names new : List (List ℕ)) (toks : List Tok) (kind : Kind) (at : ℕ) → ((ts : List Token) → Tokens n (chars rest) ts → Tokens n all (map (token_of names) toks ++ ts)) → AllByRecursion (λ t. IsWordIn names t.kind) toks → Extends names new → CutsOne (chars rest) (sign_of new kind) behind → IsUtf8 rest → at ≡ n - length rest → (ts : List Token) → Tokens n behind ts → Tokens n all (map (token_of new) (toks ++ record { kind = kind; at = at } ∷ []) ++ ts)

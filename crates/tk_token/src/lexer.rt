@@ -8,7 +8,7 @@ ghost use Rattle.tk_token.specs.Pieces.{CutsOne};
 ghost use Rattle.tk_token.specs.Places.{is_line_end};
 ghost use Rattle.tk_token.specs.Refusals.{OnFault};
 ghost use Rattle.tk_token.specs.Token.{token_of, sign_of, IsWordIn, IsNoArg, Extends};
-ghost use Rattle.tk_token.specs.Words.{EachOnce};
+ghost use Rattle.tk_token.specs.Words.{EachOnce, with_sign, words_of};
 
 use crate::faults::{balanced, text_of};
 use crate::{Kind, Names, Refusal, Tok};
@@ -31,9 +31,11 @@ pub fn lex(alloc: Global, source: &[u8]) -> Result<Lexed, Refusal>
     ensures tokens { IfOk result (λ lexed. Lexes source.now (Ok (map (token_of lexed.names) lexed.toks.items))) }
     ensures fault { IfErr result (λ refusal. OnFault refusal (λ fault. Lexes source.now (Err fault))) }
 
-    // A word is the number of one of the names, which are each there once; no token is the place of an argument.
+    // A word is the number of one of the names, which are the words of the tokens, each once, in the order in which they
+    // first stand there; no token is the place of an argument.
     ensures words { IfOk result (λ lexed. All (λ tok. IsWordIn lexed.names tok.kind) lexed.toks.items) }
     ensures once { IfOk result (λ lexed. EachOnce lexed.names) }
+    ensures listed { IfOk result (λ lexed. lexed.names ≡ words_of (map (token_of lexed.names) lexed.toks.items)) }
     ensures few { IfOk result (λ lexed. length lexed.names ≤ 17000000) }
     ensures no_arg { IfOk result (λ lexed. All (λ tok. IsNoArg tok.kind) lexed.toks.items) }
     ensures places { IfOk result (λ lexed. All (λ tok. tok.at < length source.now) lexed.toks.items) }
@@ -51,6 +53,7 @@ fn cut(alloc: Global, text: &str) -> Result<Lexed, AllocError>
     ensures words { IfOk result (λ lexed. All (λ tok. IsWordIn lexed.names tok.kind) lexed.toks.items) }
     ensures once { IfOk result (λ lexed. EachOnce lexed.names) }
     ensures few { IfOk result (λ lexed. length lexed.names ≤ length text.now) }
+    ensures listed { IfOk result (λ lexed. lexed.names ≡ words_of (map (token_of lexed.names) lexed.toks.items)) }
 {
     let mut toks = Vec::new(alloc);
     let mut names = Names::new(alloc);
@@ -106,6 +109,7 @@ fn next_kind<'s>(
     ensures names { OnOk result (Extends names.old names.new) }
     ensures few { OnOk result (length names.new ≤ length names.old + 1) }
     ensures once { OnOk result (EachOnce names.old → EachOnce names.new) }
+    ensures listed { IfOk result (λ found. names.new ≡ with_sign names.old (sign_of names.new found.0)) }
 {
     if is_blank(first) {
         return Ok((Kind::Space, after_gap(tail)));
@@ -127,6 +131,7 @@ fn next_control<'s>(names: &mut Names, tail: &'s str) -> Result<(Kind, &'s str),
     ensures names { OnOk result (Extends names.old names.new) }
     ensures few { OnOk result (length names.new ≤ length names.old + 1) }
     ensures once { OnOk result (EachOnce names.old → EachOnce names.new) }
+    ensures listed { IfOk result (λ found. names.new ≡ with_sign names.old (sign_of names.new found.0)) }
 {
     if makes_space(tail) {
         return Ok((Kind::Symbol(' '), after_gap(tail)));
@@ -154,6 +159,7 @@ fn next_word<'s>(names: &mut Names, tail: &'s str) -> Result<(Kind, &'s str), Al
     ensures names { OnOk result (Extends names.old names.new) }
     ensures few { OnOk result (length names.new ≤ length names.old + 1) }
     ensures once { OnOk result (EachOnce names.old → EachOnce names.new) }
+    ensures listed { IfOk result (λ found. names.new ≡ with_sign names.old (sign_of names.new found.0)) }
 {
     let (word, after) = split_letters(tail);
     let number = names.add(word)?;

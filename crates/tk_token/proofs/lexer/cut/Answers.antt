@@ -6,7 +6,8 @@ use Rattle.tk_token.specs.Cutting.{Tokens}
 use Rattle.tk_token.specs.Faults.{after_mark}
 use Rattle.tk_token.specs.Pieces.{CutsOne}
 use Rattle.tk_token.specs.Token.{sign_of, token_of, IsWordIn}
-use Rattle.tk_token.proofs.Loop.{words_more, goes_on_more, goes_on_past, ends_here}
+use Rattle.tk_token.specs.Words.{words_of}
+use Rattle.tk_token.proofs.Loop.{words_more, listed_more, goes_on_more, goes_on_past, ends_here}
 use Rattle.tk_token.proofs.lexer.cut.Goals as goal
 
 pub loop-first-preserved-then-first-eq37 : goal.loop-first-preserved-then-first-eq37
@@ -16,6 +17,7 @@ loop-first-preserved-then-first-eq37 c =
       text = c.after_comment-rest.utf8;
       few = omega (arith, so.few, c.in-Some.ensures.within, c.after_comment-rest.ensures.within);
       once = so.once;
+      listed = so.listed;
       words = so.words;
       goes_on = goes_on_past (length c.args.text.now) (after_mark (chars c.args.text.now)) (chars c.loop-first.rest.now) c.in-Some.first (chars c.in-Some.tail.now) (chars c.after_comment-rest.result.now) (map (token_of c.loop-first.names) c.loop-first.toks.items) so.goes_on c.in-Some.ensures.value c.if-first-eq37.true c.after_comment-rest.ensures.value;
     }
@@ -31,6 +33,7 @@ loop-first-preserved c =
       text = c.in_ok-kind.ensures.text;
       few = omega (arith, so.few, c.in-Some.ensures.within, c.in_ok-kind.ensures.within, c.in_ok-kind.ensures.few);
       once = c.in_ok-kind.ensures.once so.once;
+      listed = subst (λ (toks : List Tok). new ≡ words_of (map (token_of new) toks)) (sym c.in_ok-push.ensures.items) (listed_more c.loop-first.names new c.loop-first.toks.items _ so.listed c.in_ok-kind.ensures.names so.words c.in_ok-kind.ensures.listed);
       words = subst (λ (toks : List Tok). AllByRecursion (λ t. IsWordIn new t.kind) toks) (sym c.in_ok-push.ensures.items) (words_more c.loop-first.names new c.loop-first.toks.items _ c.in_ok-kind.ensures.names so.words c.in_ok-kind.ensures.word);
       goes_on = λ ts t.
           subst (λ (toks : List Tok). Tokens n (after_mark (chars c.args.text.now)) (map (token_of new) toks ++ ts)) (sym c.in_ok-push.ensures.items)
