@@ -1,4 +1,4 @@
-use Rattle.std.proofs.Common.{◌++◌, List, length, map, refl, sym, subst, arith}
+use Rattle.std.proofs.Common.{◌≡◌, ◌++◌, List, length, map, refl, sym, subst, arith}
 use Rattle.std.specs.List.{AllByRecursion}
 use Rattle.std.specs.Str.{chars}
 use Rattle.tk_token.specs.declared.Tok.{Tok}
