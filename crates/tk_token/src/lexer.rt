@@ -98,7 +98,7 @@ fn next_kind<'s>(
     tail: &'s str,
 ) -> Result<(Kind, &'s str), AllocError>
     requires room { length names.old < 4294967295 }
-    requires piece { first ≢ 37 }
+    requires no_comment { first ≢ 37 }
     ensures cuts { IfOk result (λ found. CutsOne (first ∷ chars tail.now) (sign_of names.new found.0) (chars found.1.now)) }
     ensures text { IfOk result (λ found. IsUtf8 found.1.now) }
     ensures within { IfOk result (λ found. length found.1.now ≤ length tail.now) }
