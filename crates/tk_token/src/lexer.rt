@@ -128,18 +128,11 @@ fn next_control<'s>(names: &mut Names, tail: &'s str) -> Result<(Kind, &'s str),
     ensures few { OnOk result (length names.new ≤ length names.old + 1) }
     ensures once { OnOk result (EachOnce names.old → EachOnce names.new) }
 {
-    if makes_space(tail) {
-        return Ok((Kind::Symbol(' '), after_gap(tail)));
-    }
     match split_first(tail) {
-        Some((second, more)) => {
-            if is_letter(second) {
-                next_word(names, tail)
-            } else {
-                Ok((Kind::Symbol(second), more))
-            }
-        }
-        None => unreachable!(),
+        None => Ok((Kind::Symbol(' '), tail)),
+        Some(_) if makes_space(tail) => Ok((Kind::Symbol(' '), after_gap(tail))),
+        Some((second, _)) if is_letter(second) => next_word(names, tail),
+        Some((second, more)) => Ok((Kind::Symbol(second), more)),
     }
 }
 
