@@ -94,12 +94,36 @@ fn a_picture_gives_its_document_or_its_first_fault(rt: HostRuntime) -> Result<()
         ("\\draw (1,0);", 0, NOTHING, ""),
         ("\\draw (600,0) -- (0,0);", 1, "", "p.tex:2:7: TooLarge\n"),
         ("\\draw (0,0) -| (1,1);", 1, "", "p.tex:2:14: Unbuilt\n"),
+        ("\\draw % {\n (0,0) --\n\n(1,0);%", 0, LINE, ""),
     ] {
         let file = picture(rt.alloc(), line)?;
         let ran = run_with(rt.alloc(), &["render", "p.tex"], file, SOUND, SOUND, SOUND)?;
         assert_eq!(rt; ran.status, status, "at {line}");
         assert_eq!(rt; ran.out.bytes(), out.as_bytes(), "at {line}");
         assert_eq!(rt; ran.err.bytes(), err.as_bytes(), "at {line}");
+    }
+    Ok(())
+}
+
+/// What is asked of the whole source comes first; a column counts characters.
+#[test]
+fn a_source_is_asked_whole_first(rt: HostRuntime) -> Result<(), Fail> {
+    let rows: [(&[u8], &str); 6] = [
+        (b"a\xff", "p.tex:1:2: NotUtf8\n"),
+        (b"a\x07", "p.tex:1:2: BadChar\n"),
+        (b"\xc3\xa9\r\n\xe2\x82\xac}", "p.tex:2:2: Brace\n"),
+        (b"\\begin{tikzpicture}\n\\draw {", "p.tex:2:7: Brace\n"),
+        (&[b'{'; 257], "p.tex:1:257: TooDeep\n"),
+        (b"% a comment }\n\xef\xbb\xbf", "p.tex:2:1: Unbuilt\n"),
+    ];
+    for (source, said) in rows {
+        let name = String::from_str(rt.alloc(), "p.tex")?;
+        let bytes = Vec::from_slice(rt.alloc(), source)?;
+        let file = MemFile { name, bytes };
+        let ran = run_with(rt.alloc(), &["render", "p.tex"], file, SOUND, SOUND, SOUND)?;
+        assert_eq!(rt; ran.status, 1, "at {said}");
+        assert_eq!(rt; ran.out.bytes(), b"".as_slice(), "at {said}");
+        assert_eq!(rt; ran.err.bytes(), said.as_bytes(), "at {said}");
     }
     Ok(())
 }

@@ -1,4 +1,4 @@
--- What each definition leaves: fewer tokens, no place of which lies past a bound, as none of its faults does.
+-- What each definition leaves: fewer tokens, whose places are of a kind if all were, as those of its faults are.
 use Rattle.std.proofs.Common.{◌≡◌, ℕ, zero, suc, ◌<◌, ◌≤◌, Bool, true, false, cond, List, [], ◌∷◌, ◌++◌, length, take, drop, Ok, Err, ℤ, pos, arith, length-drop, codes}
 use Rattle.std.specs.List.{AllByRecursion, prefix_len, list_any}
 use Rattle.std.specs.Prelude.{nat_le}
@@ -33,12 +33,12 @@ module _ {A B : Type 0} where
   holds_then P Q F (Ok a) f h k = k a h
   holds_then P Q F (Err e) f h k = h
 
-module _ (end bound : ℕ) (below : end ≤ bound) where
+module _ (end : ℕ) (Stands : ℕ → Type 0) (at_end : Stands end) where
   abbrev pub Within : List Token → Type 0
-  Within ts = AllByRecursion (λ (t : Token). t.at ≤ bound) ts
+  Within ts = AllByRecursion (λ (t : Token). Stands t.at) ts
 
   abbrev pub Early : Fault → Type 0
-  Early f = f.at ≤ bound
+  Early f = Stands f.at
 
   -- at most n tokens, or fewer than n
   pub record Ahead (n : ℕ) (ts : List Token) : Type 0 where
@@ -64,13 +64,13 @@ module _ (end bound : ℕ) (below : end ≤ bound) where
   unfolding after_spaces
   spaces_ahead n ts h = dropped_ahead n (prefix_len (λ (t : Token). is_space t.sign) ts) ts h
 
-  place_early : (ts : List Token) → Within ts → place_of end ts ≤ bound
-  place_early [] h = below
+  place_early : (ts : List Token) → Within ts → Stands (place_of end ts)
+  place_early [] h = at_end
   place_early (t ∷ ts) h = h.0
 
   pub expected_fewer : (wanted : Sign → Bool) (n : ℕ) (ts : List Token) → Ahead n ts → Holds (Fewer n) Early (expected wanted end ts)
   unfolding expected
-  expected_fewer wanted n [] h = below
+  expected_fewer wanted n [] h = at_end
   expected_fewer wanted n (t ∷ ts) h = at (wanted t.sign)
     where
       at : (b : Bool) → Holds (Fewer n) Early (cond b (Ok ts) (fault Unbuilt t.at))
@@ -98,7 +98,7 @@ module _ (end bound : ℕ) (below : end ≤ bound) where
 
   -- a number that was read
   abbrev ReadNumber : ℕ → Read Numeral → Type 0
-  ReadNumber n r = Ahead n r.rest × (r.value.at ≤ bound)
+  ReadNumber n r = Ahead n r.rest × Stands r.value.at
 
   optional_ahead : (wanted : Sign → Bool) (n : ℕ) (ts : List Token) → Ahead n ts → Ahead n (after_optional wanted ts)
   optional_ahead wanted n ts h = at (begins wanted ts)
@@ -120,9 +120,9 @@ module _ (end bound : ℕ) (below : end ≤ bound) where
   -- a coordinate that was read
   record ReadCoordinate (n : ℕ) (r : Read Coordinate) : Type 0 where
     rest : Fewer n r.rest
-    x : r.value.x.at ≤ bound
-    y : r.value.y.at ≤ bound
-    at : r.value.at ≤ bound
+    x : Stands r.value.x.at
+    y : Stands r.value.y.at
+    at : Stands r.value.at
 
   coordinate_fewer : (n : ℕ) (ts : List Token) → Ahead n ts → Holds (ReadCoordinate n) Early (coordinate end ts)
   unfolding coordinate
@@ -134,13 +134,13 @@ module _ (end bound : ℕ) (below : end ≤ bound) where
       holds_then (Fewer n) (ReadCoordinate n) Early (next (is_char 41) end y.rest) _ (next_fewer (is_char 41) n y.rest d.0) (λ rest e.
       record { rest = e; x = b.1; y = d.1; at = place_early ts h.within })))))
 
-  number_early : (n : Numeral) → n.at ≤ bound → Holds (λ _. Unit {0}) Early (number_of n)
+  number_early : (n : Numeral) → Stands n.at → Holds (λ _. Unit {0}) Early (number_of n)
   number_early n h = holds_if (λ _. Unit {0}) Early (nat_le (decimal_value n.text) 1073741823) _ _ tt h
 
-  centimetres_early : (at : ℕ) (x : ℤ) → at ≤ bound → Holds (λ _. Unit {0}) Early (centimetres at x)
+  centimetres_early : (at : ℕ) (x : ℤ) → Stands at → Holds (λ _. Unit {0}) Early (centimetres at x)
   centimetres_early at x h = holds_if (λ _. Unit {0}) Early (is_scaled (product x (pos 1864679))) _ _ tt h
 
-  point_early : (c : Coordinate) → c.x.at ≤ bound → c.y.at ≤ bound → c.at ≤ bound → Holds (λ _. Unit {0}) Early (point_of c)
+  point_early : (c : Coordinate) → Stands c.x.at → Stands c.y.at → Stands c.at → Holds (λ _. Unit {0}) Early (point_of c)
   unfolding point_of
   point_early c hx hy h =
       holds_then (λ _. Unit {0}) (λ _. Unit {0}) Early (number_of c.x) _ (number_early c.x hx) (λ x _.

@@ -17,29 +17,20 @@ module _ {A : Type 0} where
   pub holds_at : (P : A → Type 0) (F : Fault → Type 0) (m : Answer A) (a : A) → m ≡ Ok a → Holds P F m → P a
   holds_at P F m a e h = subst (Holds P F) e h
 
--- a number that no place is past
-abbrev pub bound_of : ℕ → List Token → ℕ
-bound_of end [] = end
-bound_of end (t ∷ ts) = t.at + bound_of end ts
+-- any place
+abbrev pub Anywhere : ℕ → Type 0
+Anywhere at = Unit {0}
 
-pub bound_above : (end : ℕ) (ts : List Token) → end ≤ bound_of end ts
-bound_above end [] = omega arith
-bound_above end (t ∷ ts) = let h = bound_above end ts in omega (arith, h)
+within_anywhere : (end : ℕ) (ts : List Token) → Within end Anywhere tt ts
+within_anywhere end [] = tt
+within_anywhere end (t ∷ ts) = (tt, within_anywhere end ts)
 
-within_more : (end a b : ℕ) (ha : end ≤ a) (hb : end ≤ b) (ts : List Token) → a ≤ b → Within end a ha ts → Within end b hb ts
-within_more end a b ha hb [] le h = tt
-within_more end a b ha hb (t ∷ ts) le h = (let k = h.0 in omega (arith, k), within_more end a b ha hb ts le h.1)
-
-within_bound : (end : ℕ) (ts : List Token) → Within end (bound_of end ts) (bound_above end ts) ts
-within_bound end [] = tt
-within_bound end (t ∷ ts) = (omega arith, within_more end (bound_of end ts) (t.at + bound_of end ts) (bound_above end ts) (bound_above end (t ∷ ts)) ts (omega arith) (within_bound end ts))
-
-pub all_ahead : (end : ℕ) (ts : List Token) → Ahead end (bound_of end ts) (bound_above end ts) (length ts) ts
-all_ahead end ts = record { most = omega arith; within = within_bound end ts }
+pub all_ahead : (end : ℕ) (ts : List Token) → Ahead end Anywhere tt (length ts) ts
+all_ahead end ts = record { most = omega arith; within = within_anywhere end ts }
 
 path_shortens : (end : ℕ) → Shortens (λ (g : Going). length g.rest) end (path_part end)
 path_shortens end g h e =
-    let left = holds_at (PathPart end (bound_of end g.rest) (bound_above end g.rest) (length g.rest)) (Early end (bound_of end g.rest) (bound_above end g.rest)) (path_part end g) (More h) e (path_part_fewer end (bound_of end g.rest) (bound_above end g.rest) (length g.rest) g (all_ahead end g.rest)) in
+    let left = holds_at (PathPart end Anywhere tt (length g.rest)) (Early end Anywhere tt) (path_part end g) (More h) e (path_part_fewer end Anywhere tt (length g.rest) g (all_ahead end g.rest)) in
     left.fewer
 
 pub path_left : (end : ℕ) (g h : Going) → path_part end g ≡ Ok (More h) → length h.rest < length g.rest

@@ -15,44 +15,44 @@ use Rattle.tk_picture.specs.Repeat.{Step, More, Ended, go_on}
 use Rattle.tk_picture.specs.Paths.{Halfway, Drawn, path, draw, picture_end, picture_part, paths, drawing_of, nothing_after, document}
 use Rattle.tk_picture.proofs.Repeated.{Shortens, until_end_is, until_more, until_ended, until_failed}
 use Rattle.tk_picture.proofs.Ahead.{Holds, holds_then, holds_if, holds_weaker, Within, Ahead, Fewer, Behind, fewer_ahead, spaces_ahead, expected_fewer, name_fewer, point_fewer, operations_fewer}
-use Rattle.tk_picture.proofs.Loops.{holds_at, bound_of, bound_above, all_ahead, operations_are}
+use Rattle.tk_picture.proofs.Loops.{holds_at, Anywhere, all_ahead, operations_are}
 
-module _ (end bound : ℕ) (below : end ≤ bound) where
+module _ (end : ℕ) (Stands : ℕ → Type 0) (at_end : Stands end) where
   abbrev Early_here : Fault → Type 0
-  Early_here f = f.at ≤ bound
+  Early_here f = Stands f.at
 
-  path_fewer : (n : ℕ) (ts : List Token) → Ahead end bound below n ts → Holds (Behind end bound below n) Early_here (path end ts)
+  path_fewer : (n : ℕ) (ts : List Token) → Ahead end Stands at_end n ts → Holds (Behind end Stands at_end n) Early_here (path end ts)
   unfolding path
   path_fewer n ts h =
-      holds_then (λ (r : Read Point). Fewer end bound below n r.rest) (Behind end bound below n) Early_here (point end (after_spaces ts)) _ (point_fewer end bound below n (after_spaces ts) (spaces_ahead end bound below n ts h)) (λ start k.
-      operations_fewer end bound below (operations_are end) n (record { segs = Move start.value ∷ []; rest = start.rest }) (fewer_ahead end bound below n start.rest k))
+      holds_then (λ (r : Read Point). Fewer end Stands at_end n r.rest) (Behind end Stands at_end n) Early_here (point end (after_spaces ts)) _ (point_fewer end Stands at_end n (after_spaces ts) (spaces_ahead end Stands at_end n ts h)) (λ start k.
+      operations_fewer end Stands at_end (operations_are end) n (record { segs = Move start.value ∷ []; rest = start.rest }) (fewer_ahead end Stands at_end n start.rest k))
 
   -- what a part of a picture leaves
   abbrev pub PicturePart : ℕ → Step Halfway (Read Drawn) → Type 0
-  PicturePart n (More p) = Fewer end bound below n p.rest
-  PicturePart n (Ended r) = Fewer end bound below n r.rest
+  PicturePart n (More p) = Fewer end Stands at_end n p.rest
+  PicturePart n (Ended r) = Fewer end Stands at_end n r.rest
 
-  draw_fewer : (n : ℕ) (d : Drawn) (ts : List Token) → Ahead end bound below n ts → Holds (PicturePart n) Early_here (draw end d ts)
+  draw_fewer : (n : ℕ) (d : Drawn) (ts : List Token) → Ahead end Stands at_end n ts → Holds (PicturePart n) Early_here (draw end d ts)
   unfolding draw
   draw_fewer n d ts h =
-      holds_then (Fewer end bound below n) (PicturePart n) Early_here (expected (is_word (codes "draw")) end ts) _ (expected_fewer end bound below (is_word (codes "draw")) n ts h) (λ behind k.
-      holds_then (Behind end bound below n) (PicturePart n) Early_here (path end behind) _ (path_fewer n behind (fewer_ahead end bound below n behind k)) (λ p l. l))
+      holds_then (Fewer end Stands at_end n) (PicturePart n) Early_here (expected (is_word (codes "draw")) end ts) _ (expected_fewer end Stands at_end (is_word (codes "draw")) n ts h) (λ behind k.
+      holds_then (Behind end Stands at_end n) (PicturePart n) Early_here (path end behind) _ (path_fewer n behind (fewer_ahead end Stands at_end n behind k)) (λ p l. l))
 
-  end_fewer : (n : ℕ) (d : Drawn) (ts : List Token) → Ahead end bound below n ts → Holds (PicturePart n) Early_here (picture_end end d ts)
+  end_fewer : (n : ℕ) (d : Drawn) (ts : List Token) → Ahead end Stands at_end n ts → Holds (PicturePart n) Early_here (picture_end end d ts)
   unfolding picture_end
   end_fewer n d ts h =
-      holds_then (Fewer end bound below n) (PicturePart n) Early_here (expected (is_word (codes "end")) end ts) _ (expected_fewer end bound below (is_word (codes "end")) n ts h) (λ behind k.
-      holds_then (Fewer end bound below n) (PicturePart n) Early_here (after_name end behind) _ (name_fewer end bound below n behind (fewer_ahead end bound below n behind k)) (λ rest l. l))
+      holds_then (Fewer end Stands at_end n) (PicturePart n) Early_here (expected (is_word (codes "end")) end ts) _ (expected_fewer end Stands at_end (is_word (codes "end")) n ts h) (λ behind k.
+      holds_then (Fewer end Stands at_end n) (PicturePart n) Early_here (after_name end behind) _ (name_fewer end Stands at_end n behind (fewer_ahead end Stands at_end n behind k)) (λ rest l. l))
 
-  pub picture_part_fewer : (n : ℕ) (p : Halfway) → Ahead end bound below n p.rest → Holds (PicturePart n) Early_here (picture_part end p)
+  pub picture_part_fewer : (n : ℕ) (p : Halfway) → Ahead end Stands at_end n p.rest → Holds (PicturePart n) Early_here (picture_part end p)
   unfolding picture_part
   picture_part_fewer n p h =
-      let ahead = spaces_ahead end bound below n p.rest h in
+      let ahead = spaces_ahead end Stands at_end n p.rest h in
       holds_if (PicturePart n) Early_here (begins (is_word (codes "end")) (after_spaces p.rest)) _ _ (end_fewer n p.drawn (after_spaces p.rest) ahead) (draw_fewer n p.drawn (after_spaces p.rest) ahead)
 
 picture_shortens : (end : ℕ) → Shortens (λ (p : Halfway). length p.rest) end (picture_part end)
 picture_shortens end p q e =
-    let left = holds_at (PicturePart end (bound_of end p.rest) (bound_above end p.rest) (length p.rest)) (Early_here end (bound_of end p.rest) (bound_above end p.rest)) (picture_part end p) (More q) e (picture_part_fewer end (bound_of end p.rest) (bound_above end p.rest) (length p.rest) p (all_ahead end p.rest)) in
+    let left = holds_at (PicturePart end Anywhere tt (length p.rest)) (Early_here end Anywhere tt) (picture_part end p) (More q) e (picture_part_fewer end Anywhere tt (length p.rest) p (all_ahead end p.rest)) in
     left.fewer
 
 pub picture_left : (end : ℕ) (p q : Halfway) → picture_part end p ≡ Ok (More q) → length q.rest < length p.rest
@@ -76,37 +76,37 @@ unfolding paths
 paths_fail end start p (refusals.Fault f) told e = told ∙ until_failed (λ (p : Halfway). length p.rest) end (picture_part end) (picture_shortens end) p f e
 paths_fail end start p refusals.OutOfMemory told e = tt
 
-module _ (end bound : ℕ) (below : end ≤ bound) where
+module _ (end : ℕ) (Stands : ℕ → Type 0) (at_end : Stands end) where
   abbrev Drawn_behind : ℕ → Read Drawn → Type 0
-  Drawn_behind n r = Ahead end bound below n r.rest
+  Drawn_behind n r = Ahead end Stands at_end n r.rest
 
-  run_early : (rec : Halfway → Answer (Read Drawn)) (n : ℕ) (m : Answer (Step Halfway (Read Drawn))) → ((k : ℕ) (p : Halfway) → k < n → Ahead end bound below k p.rest → Holds (Drawn_behind k) (Early_here end bound below) (rec p)) → Holds (PicturePart end bound below n) (Early_here end bound below) m → Holds (Drawn_behind n) (Early_here end bound below) (m >>= go_on rec)
+  run_early : (rec : Halfway → Answer (Read Drawn)) (n : ℕ) (m : Answer (Step Halfway (Read Drawn))) → ((k : ℕ) (p : Halfway) → k < n → Ahead end Stands at_end k p.rest → Holds (Drawn_behind k) (Early_here end Stands at_end) (rec p)) → Holds (PicturePart end Stands at_end n) (Early_here end Stands at_end) m → Holds (Drawn_behind n) (Early_here end Stands at_end) (m >>= go_on rec)
   run_early rec n (Ok (More p)) smaller h =
       let l = h.fewer in
-      holds_weaker (Drawn_behind (length p.rest)) (Drawn_behind n) (Early_here end bound below) (rec p) (λ r k. record { most = (let m = k.most in omega (arith, l, m)); within = k.within }) (smaller (length p.rest) p l (record { most = omega arith; within = h.within }))
-  run_early rec n (Ok (Ended r)) smaller h = fewer_ahead end bound below n r.rest h
+      holds_weaker (Drawn_behind (length p.rest)) (Drawn_behind n) (Early_here end Stands at_end) (rec p) (λ r k. record { most = (let m = k.most in omega (arith, l, m)); within = k.within }) (smaller (length p.rest) p l (record { most = omega arith; within = h.within }))
+  run_early rec n (Ok (Ended r)) smaller h = fewer_ahead end Stands at_end n r.rest h
   run_early rec n (Err f) smaller h = h
 
-  runs_early : (most n : ℕ) (p : Halfway) → n < most → Ahead end bound below n p.rest → Holds (Drawn_behind n) (Early_here end bound below) (paths end p)
+  runs_early : (most n : ℕ) (p : Halfway) → n < most → Ahead end Stands at_end n p.rest → Holds (Drawn_behind n) (Early_here end Stands at_end) (paths end p)
   runs_early zero n p lt h = absurd (omega arith)
   runs_early (suc most) n p lt h =
-      rw (paths_are end p) (run_early (paths end) n (picture_part end p) (λ k q less a. runs_early most k q (omega (arith, lt, less)) a) (picture_part_fewer end bound below n p h))
+      rw (paths_are end p) (run_early (paths end) n (picture_part end p) (λ k q less a. runs_early most k q (omega (arith, lt, less)) a) (picture_part_fewer end Stands at_end n p h))
 
-  nothing_early : (d : Drawing) (ts : List Token) → Within end bound below ts → Holds (λ _. Unit {0}) (Early_here end bound below) (nothing_after end d ts)
+  nothing_early : (d : Drawing) (ts : List Token) → Within end Stands at_end ts → Holds (λ _. Unit {0}) (Early_here end Stands at_end) (nothing_after end d ts)
   nothing_early d [] h = tt
   nothing_early d (t ∷ ts) h = h.0
 
-  document_early : (n : ℕ) (ts : List Token) → Ahead end bound below n ts → Holds (λ _. Unit {0}) (Early_here end bound below) (document end ts)
+  document_early : (n : ℕ) (ts : List Token) → Ahead end Stands at_end n ts → Holds (λ _. Unit {0}) (Early_here end Stands at_end) (document end ts)
   unfolding document
   document_early n ts h =
-      holds_then (Fewer end bound below n) (λ _. Unit {0}) (Early_here end bound below) (expected (is_word (codes "begin")) end (after_spaces ts)) _ (expected_fewer end bound below (is_word (codes "begin")) n (after_spaces ts) (spaces_ahead end bound below n ts h)) (λ behind a.
-      holds_then (Fewer end bound below n) (λ _. Unit {0}) (Early_here end bound below) (after_name end behind) _ (name_fewer end bound below n behind (fewer_ahead end bound below n behind a)) (λ inside b.
+      holds_then (Fewer end Stands at_end n) (λ _. Unit {0}) (Early_here end Stands at_end) (expected (is_word (codes "begin")) end (after_spaces ts)) _ (expected_fewer end Stands at_end (is_word (codes "begin")) n (after_spaces ts) (spaces_ahead end Stands at_end n ts h)) (λ behind a.
+      holds_then (Fewer end Stands at_end n) (λ _. Unit {0}) (Early_here end Stands at_end) (after_name end behind) _ (name_fewer end Stands at_end n behind (fewer_ahead end Stands at_end n behind a)) (λ inside b.
       let p : Halfway = record { drawn = record { items = []; frame = None }; rest = inside } in
-      holds_then (Drawn_behind n) (λ _. Unit {0}) (Early_here end bound below) (paths end p) _ (runs_early (suc n) n p (omega arith) (fewer_ahead end bound below n inside b)) (λ d c.
-      let rest = spaces_ahead end bound below n d.rest c in
+      holds_then (Drawn_behind n) (λ _. Unit {0}) (Early_here end Stands at_end) (paths end p) _ (runs_early (suc n) n p (omega arith) (fewer_ahead end Stands at_end n inside b)) (λ d c.
+      let rest = spaces_ahead end Stands at_end n d.rest c in
       nothing_early (drawing_of d.value) (after_spaces d.rest) rest.within)))
 
 -- a fault stands at a token or where they run out
-pub fault_within : (end : ℕ) (ts : List Token) (f : Fault) → AllByRecursion (λ (t : Token). t.at ≤ end) ts → document end ts ≡ Err f → f.at ≤ end
-fault_within end ts f h e =
-    subst (Holds (λ _. Unit {0}) (λ (f : Fault). f.at ≤ end)) e (document_early end end (omega arith) (length ts) ts (record { most = omega arith; within = h }))
+pub fault_stands : (end : ℕ) (Stands : ℕ → Type 0) → Stands end → (ts : List Token) (f : Fault) → AllByRecursion (λ (t : Token). Stands t.at) ts → document end ts ≡ Err f → Stands f.at
+fault_stands end Stands at_end ts f h e =
+    subst (Holds (λ _. Unit {0}) (λ (f : Fault). Stands f.at)) e (document_early end Stands at_end (length ts) ts (record { most = omega arith; within = h }))

@@ -34,10 +34,10 @@ const FONT_SIZE: i64 = 10 * 65_536;
 /// The drawing of a source: `\begin{tikzpicture}`, paths of straight lines between coordinates, and
 /// `\end{tikzpicture}`. It takes time and memory linear in the source's length.
 ///
-/// A source that stands for no drawing is refused at its first fault. `Unbuilt` comes at a byte that is neither a line
-/// end nor a character from the space to `~` but `%`, else at the first token with which no source of the form goes on, or
-/// at the source's length. `TooLarge` comes at the first digit or point of a number, or at the `(` of a coordinate whose
-/// lengths in centimetres are past the range of a `Scaled`.
+/// A source that stands for no drawing is refused at its first fault: first those that `lex` asks of the whole source.
+/// `Unbuilt` comes at the first token with which no source of the form goes on, or at the source's length. `TooLarge`
+/// comes at the first digit or point of a number, or at the `(` of a coordinate whose lengths in centimetres are past
+/// the range of a `Scaled`.
 pub fn compile(alloc: Global, source: &[u8]) -> Result<Drawing, Refusal>
     requires { length source.now ≤ 16777216 }
     ensures drawing { IfOk result (λ d. IsOutcome source.now (Ok d)) }

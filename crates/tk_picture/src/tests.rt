@@ -82,6 +82,12 @@ fn pictures_have_their_pieces_and_frames(rt: HostRuntime) -> Result<(), Fail> {
             [-13_107, -13_107, 13_135, 13_107],
             "path 26214: M 0 0 L 28 0; ",
         ),
+        // A comment goes to its line end, and blank lines are gaps.
+        (
+            "\\draw % a };\n\n (0,0) --% b\n  (1,0);%;",
+            [-13_107, -13_107, 1_877_786, 13_107],
+            "path 26214: M 0 0 L 1864679 0; ",
+        ),
         // The frame has the points of what is drawn alone.
         (
             r"\draw (5,5);\draw (0,0) -- (0,-1) -- (0,0);",
@@ -120,7 +126,12 @@ fn lines_have_their_first_fault(rt: HostRuntime) -> Result<(), Fail> {
         (r"\draw (0,-20000) -| (0,0);", Code::TooLarge, 30),
         (r"\draw (600,0 -- (0,0);", Code::Unbuilt, 33),
         (r"\draw (0,0) -| (1,1);", Code::Unbuilt, 33),
-        (r"\draw (600,0) % (1,1);", Code::Unbuilt, 34),
+        // The line end goes with the comment, so that `\end` follows, which is the first token of line 3.
+        (r"\draw (0,0) % (1,1);", Code::Unbuilt, 41),
+        (r"\draw (600,0) % (1,1);", Code::TooLarge, 26),
+        (r"\draw (0,0) -- (1,é);", Code::Unbuilt, 38),
+        (r"\draw (0,0) -- (1,\,);", Code::Unbuilt, 38),
+        (r"\draw #", Code::Unbuilt, 26),
         (r"\draw (0,0) - - (1,0);", Code::Unbuilt, 33),
         (r"\draw (0,0) -- cy cle;", Code::Unbuilt, 37),
         (r"\draw (0,0) -- cycle -- (1,0);", Code::Unbuilt, 41),
@@ -150,31 +161,51 @@ fn lines_have_their_first_fault(rt: HostRuntime) -> Result<(), Fail> {
 #[test]
 fn sources_have_their_first_fault(rt: HostRuntime) -> Result<(), Fail> {
     let rows = [
-        ("", 0),
-        ("\\be", 0),
-        ("\\begin", 6),
-        ("\\begin{tikz", 11),
-        ("\\begin{tikzpicture}\n", 20),
-        ("\\begin{tikzpicture}\n\\draw", 25),
-        ("\\begin{tikzpicture}\n\\draw (0,0", 30),
-        ("\\begin{tikzpicture}\n\\draw (0,0) --", 34),
-        ("\\begin{tikzpicture}\n\\draw (0,0) -- (1,0);\n", 42),
+        ("", Code::Unbuilt, 0),
+        ("\\be", Code::Unbuilt, 0),
+        ("\\begin", Code::Unbuilt, 6),
+        // A `{` that is left open comes first.
+        ("\\begin{tikz", Code::Brace, 6),
+        ("\\begin{tikzpicture}\n", Code::Unbuilt, 20),
+        ("\\begin{tikzpicture}\n\\draw", Code::Unbuilt, 25),
+        ("\\begin{tikzpicture}\n\\draw (0,0", Code::Unbuilt, 30),
+        ("\\begin{tikzpicture}\n\\draw (0,0) --", Code::Unbuilt, 34),
+        (
+            "\\begin{tikzpicture}\n\\draw (0,0) -- (1,0);\n",
+            Code::Unbuilt,
+            42,
+        ),
         (
             "\\begin{tikzpicture}\n\\draw (0,0) -- (1,0);\n\\end{tikzpicture",
-            58,
+            Code::Brace,
+            46,
         ),
-        ("\\begin{tikzpicture}\\end{tikzpicture} x", 37),
         (
-            "\\begin{tikzpicture}\\end{tikzpicture}\n\\begin{tikzpicture}\\end{tikzpicture}\n",
+            "\\begin{tikzpicture}\\end{tikzpicture} x",
+            Code::Unbuilt,
             37,
         ),
-        ("\\begin{tikz picture}\\end{tikzpicture}", 11),
-        ("\\begin{ tikzpicture}\\end{tikzpicture}", 7),
-        ("\\begin{tikzpicture}\\end{scope}", 24),
-        ("\\begin{tikzpicture}\\draw (600,0); \u{e9}", 34),
+        (
+            "\\begin{tikzpicture}\\end{tikzpicture}\n\\begin{tikzpicture}\\end{tikzpicture}\n",
+            Code::Unbuilt,
+            37,
+        ),
+        ("\\begin{tikz picture}\\end{tikzpicture}", Code::Unbuilt, 11),
+        ("\\begin{ tikzpicture}\\end{tikzpicture}", Code::Unbuilt, 7),
+        ("\\begin{tikzpicture}\\end{scope}", Code::Unbuilt, 24),
+        (
+            "\\begin{tikzpicture}\\draw (6,0); \u{e9}",
+            Code::Unbuilt,
+            32,
+        ),
+        (
+            "\\begin{tikzpicture}\\draw (600,0); \u{e9}",
+            Code::TooLarge,
+            25,
+        ),
+        ("x\u{e9}\u{7}", Code::BadChar, 3),
     ];
-    for (source, at) in rows {
-        let code = Code::Unbuilt;
+    for (source, code, at) in rows {
         assert_eq!(rt;
             fault(&rt, rt.alloc(), source),
             Some(Fault { code, at }),
@@ -184,6 +215,7 @@ fn sources_have_their_first_fault(rt: HostRuntime) -> Result<(), Fail> {
     for source in [
         " \n\\begin {tikzpicture}\n\n\\end\n{tikzpicture} \n",
         "\\begin{tikzpicture}\\end{tikzpicture}",
+        "\u{feff}% \u{e9}{\r\n\\begin%\n{tikzpicture}\t\r\n\\end{tikzpicture}%",
     ] {
         assert!(rt; outcome(&rt, rt.alloc(), source).is_ok(), "{source}");
     }

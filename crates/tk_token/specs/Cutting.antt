@@ -29,17 +29,17 @@ letters_of cs = take_while is_letter cs
 abbrev pub after_letters : List ℕ → List ℕ
 after_letters cs = after_while is_letter cs
 
--- what stands after a comment, of what stands after its `%`: the comment goes to the end of its line, and has the spaces and tabs after that
+-- what stands after a comment, of whose characters those behind its `%` are given: it has the end of its line, and the spaces and tabs after that
 abbrev pub after_comment : List ℕ → List ℕ
 after_comment cs = after_while is_indent (after_first is_line_end cs)
 
--- what stands after a gap, or after what is left of it in a comment: 37 is `%`
+-- what stands after the gap in front, or, inside a comment of it, after what is left of the gap; 37 is `%`
 abbrev pub gap_end : Bool → List ℕ → List ℕ
 gap_end in_comment [] = []
 gap_end true (c ∷ cs) = gap_end (not (is_line_end c)) cs
 gap_end false (c ∷ cs) = if is_blank c then gap_end false cs else (if c == 37 then gap_end true cs else c ∷ cs)
 
--- what stands after the blanks and comments in front
+-- what stands after the gap in front: blanks and comments, as many as there are
 abbrev pub after_gap : List ℕ → List ℕ
 after_gap cs = gap_end false cs
 
@@ -48,7 +48,7 @@ abbrev pub begins_line_feed : List ℕ → Bool
 begins_line_feed [] = false
 begins_line_feed (c ∷ cs) = c == 10
 
--- with what stands after it a `\` is the control space: a space, a tab, a line end, which is an LF or a CR with an LF directly after it, or nothing
+-- a `\` is the control space where this stands after it: a space, a tab, a line end, which is an LF or a CR with an LF directly after it, or nothing
 abbrev pub makes_space : List ℕ → Bool
 makes_space [] = true
 makes_space (c ∷ cs) = is_indent c || c == 10 || (c == 13 && begins_line_feed cs)
@@ -61,11 +61,11 @@ single c = if c == 123 then Opens else (if c == 125 then Closes else (if c == 35
 abbrev pub byte_count : List ℕ → ℕ
 byte_count cs = length (encode_utf8_all cs)
 
--- the token that stands in front of the last characters of n bytes: its place is how many bytes stand before it
+-- the token in front of the last characters of a source of n bytes: its place is how many bytes stand before it
 abbrev pub token_at : ℕ → List ℕ → Sign → Token
 token_at n cs sign = record { sign = sign; at = n - byte_count cs }
 
--- The tokens of characters that are the last ones of n bytes. 92 is `\`.
+-- The tokens of the last characters of a source of n bytes. 92 is `\`.
 pub data Tokens (n : ℕ) : List ℕ → List Token → Type 0 where
   -- no characters, no tokens
   ends : Tokens n [] []

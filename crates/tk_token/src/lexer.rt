@@ -101,7 +101,7 @@ fn next_kind<'s>(
     tail: &'s str,
 ) -> Result<(Kind, &'s str), AllocError>
     requires room { length names.old < 4294967295 }
-    requires piece { first ≢ 37 }
+    requires no_comment { first ≢ 37 }
     ensures cuts { IfOk result (λ found. CutsOne (first ∷ chars tail.now) (sign_of names.new found.0) (chars found.1.now)) }
     ensures text { IfOk result (λ found. IsUtf8 found.1.now) }
     ensures within { IfOk result (λ found. length found.1.now ≤ length tail.now) }
@@ -133,18 +133,11 @@ fn next_control<'s>(names: &mut Names, tail: &'s str) -> Result<(Kind, &'s str),
     ensures once { OnOk result (EachOnce names.old → EachOnce names.new) }
     ensures listed { IfOk result (λ found. names.new ≡ with_sign names.old (sign_of names.new found.0)) }
 {
-    if makes_space(tail) {
-        return Ok((Kind::Symbol(' '), after_gap(tail)));
-    }
     match split_first(tail) {
-        Some((second, more)) => {
-            if is_letter(second) {
-                next_word(names, tail)
-            } else {
-                Ok((Kind::Symbol(second), more))
-            }
-        }
-        None => unreachable!(),
+        None => Ok((Kind::Symbol(' '), tail)),
+        Some(_) if makes_space(tail) => Ok((Kind::Symbol(' '), after_gap(tail))),
+        Some((second, _)) if is_letter(second) => next_word(names, tail),
+        Some((second, more)) => Ok((Kind::Symbol(second), more)),
     }
 }
 

@@ -18,13 +18,15 @@ pub use names::Names;
 pub use positions::place;
 use std::alloc::AllocError;
 
+/// What a token is.
 #[derive(Clone, Copy, Debug, PartialEq, Eq)]
 pub enum Kind {
     /// A character that stands for itself.
     Char(char),
     /// A control word, by its number among the names.
     Word(u32),
-    /// A control symbol: `\` and one character that is no letter. Before a blank it is the control space.
+    /// A control symbol: `\` and one character that is no letter. Before a space, a tab, a line end or the end of the
+    /// source it is the control space, which is the symbol of a space.
     Symbol(char),
     /// `{`
     Open,
@@ -34,21 +36,23 @@ pub enum Kind {
     Param,
     /// The place of an argument, from 1 on. It stands in stored bodies alone, and never in a source.
     Arg(u8),
-    /// A gap.
+    /// A gap with a blank outside its comments.
     Space,
 }
 
+/// A token, with the byte offset of its first byte.
 #[derive(Clone, Copy, Debug, PartialEq, Eq)]
 pub struct Tok {
     pub kind: Kind,
     pub at: u32,
 }
 
+/// What is wrong with a source.
 #[derive(Clone, Copy, Debug, PartialEq, Eq)]
 pub enum Code {
     /// The bytes aren't UTF-8: at the first byte of a sequence that begins no character.
     NotUtf8,
-    /// A control character that is no tab, CR or LF, or U+FFFE or U+FFFF.
+    /// A character below U+0020 that is no tab, LF or CR, or else U+FFFE or U+FFFF.
     BadChar,
     /// A `}` too many, or else a `{` left open: the innermost one.
     Brace,
@@ -78,12 +82,14 @@ pub enum Code {
     Unbuilt,
 }
 
+/// What is wrong, and at which byte offset.
 #[derive(Clone, Copy, Debug, PartialEq, Eq)]
 pub struct Fault {
     pub code: Code,
     pub at: u32,
 }
 
+/// Why a call that takes memory gave nothing.
 #[derive(Clone, Copy, Debug, PartialEq, Eq)]
 pub enum Refusal {
     Fault(Fault),
