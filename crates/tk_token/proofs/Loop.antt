@@ -10,7 +10,7 @@ use Rattle.tk_token.specs.Token.{Sign, Token, sign_of, token_of, IsWordIn, Exten
 use Rattle.std.specs.Str.{chars, IsUtf8}
 use Rattle.tk_token.specs.Cutting.{token_at, after_comment, Tokens, ends, comment}
 use Rattle.tk_token.specs.Pieces.{CutsOne}
-use Rattle.tk_token.specs.Words.{with_sign, with_tokens, words_of}
+use Rattle.tk_token.specs.Words.{with_sign, with_words, words_of}
 use Rattle.tk_token.proofs.Texts.{byte_count_is}
 
 -- a word that is there keeps its meaning when words are added
@@ -48,11 +48,12 @@ words_more names new [] tok e h w = (w, tt)
 words_more names new (t ∷ ts) tok e h w = (subst (λ ns. IsWordIn ns t.kind) (sym e.1) (word_kept names e.0 t.kind h.0), words_more names new ts tok e h.1 w)
 
 -- the words of one more token
-with_last : (words : List (List ℕ)) (ts : List Token) (t : Token) → with_tokens words (ts ++ t ∷ []) ≡ with_sign (with_tokens words ts) t.sign
+with_last : (words : List (List ℕ)) (ts : List Token) (t : Token) → with_words words (ts ++ t ∷ []) ≡ with_sign (with_words words ts) t.sign
 with_last words [] t = refl
 with_last words (u ∷ us) t = with_last (with_sign words u.sign) us t
 
 pub listed_more : (names new : List (List ℕ)) (toks : List Tok) (tok : Tok) → names ≡ words_of (map (token_of names) toks) → Extends names new → AllByRecursion (λ t. IsWordIn names t.kind) toks → new ≡ with_sign names (sign_of new tok.kind) → new ≡ words_of (map (token_of new) (toks ++ tok ∷ []))
+unfolding words_of
 listed_more names new toks tok listed more known grown =
     let olds : map (token_of new) toks ≡ map (token_of names) toks = ap (λ (ns : List (List ℕ)). map (token_of ns) toks) more.1 ∙ tokens_same names more.0 toks known in
     grown

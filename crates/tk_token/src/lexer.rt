@@ -47,6 +47,7 @@ pub fn lex(alloc: Global, source: &[u8]) -> Result<Lexed, Refusal>
 }
 
 /// The tokens of a text.
+#[tactic(auto, unfolding(crate::specs::Words::words_of))]
 fn cut(alloc: Global, text: &str) -> Result<Lexed, AllocError>
     requires short { length text.now ≤ 16777216 }
     ensures tokens { IfOk result (λ lexed. Tokens (length text.now) (after_mark (chars text.now)) (map (token_of lexed.names) lexed.toks.items)) }
