@@ -2,12 +2,24 @@
 use Rattle.std.specs.Prelude.{ℕ, List, ◌++◌, codes, decimal}
 use Rattle.tk_token.specs.declared.Fault.{Fault}
 use Rattle.tk_token.specs.declared.Code.{Code}
-use Rattle.tk_token.specs.declared.Code.TheVariants.{TooLarge, TooLong, Unbuilt}
+use Rattle.tk_token.specs.declared.Code.TheVariants.{NotUtf8, BadChar, Brace, TooDeep, TooLarge, DivZero, Domain, Expression, MacroSyntax, MacroArg, Budget, Levels, Coordinate, TooLong, Unbuilt}
 use Rattle.tk_token.specs.Places.{line_of, column_of}
 
 -- the name of a fault
 abbrev pub name_of : Code → List ℕ
+name_of NotUtf8 = codes "NotUtf8"
+name_of BadChar = codes "BadChar"
+name_of Brace = codes "Brace"
+name_of TooDeep = codes "TooDeep"
 name_of TooLarge = codes "TooLarge"
+name_of DivZero = codes "DivZero"
+name_of Domain = codes "Domain"
+name_of Expression = codes "Expression"
+name_of MacroSyntax = codes "MacroSyntax"
+name_of MacroArg = codes "MacroArg"
+name_of Budget = codes "Budget"
+name_of Levels = codes "Levels"
+name_of Coordinate = codes "Coordinate"
 name_of TooLong = codes "TooLong"
 name_of Unbuilt = codes "Unbuilt"
 

@@ -18,7 +18,19 @@ fn code_name(code: Code) -> &'static str
     ensures { result.now ≡ text.name_of code }
 {
     match code {
+        Code::NotUtf8 => "NotUtf8",
+        Code::BadChar => "BadChar",
+        Code::Brace => "Brace",
+        Code::TooDeep => "TooDeep",
         Code::TooLarge => "TooLarge",
+        Code::DivZero => "DivZero",
+        Code::Domain => "Domain",
+        Code::Expression => "Expression",
+        Code::MacroSyntax => "MacroSyntax",
+        Code::MacroArg => "MacroArg",
+        Code::Budget => "Budget",
+        Code::Levels => "Levels",
+        Code::Coordinate => "Coordinate",
         Code::TooLong => "TooLong",
         Code::Unbuilt => "Unbuilt",
     }

@@ -48,8 +48,32 @@ pub struct Tok {
 /// What is wrong with a source.
 #[derive(Clone, Copy, Debug, PartialEq, Eq)]
 pub enum Code {
+    /// The bytes aren't UTF-8.
+    NotUtf8,
+    /// A control character, U+FFFE or U+FFFF.
+    BadChar,
+    /// A `}` too many, or a `{` left open.
+    Brace,
+    /// A 257th open brace, or a 65th open parenthesis, call or `?` of an expression.
+    TooDeep,
     /// A value lies past 1,073,741,823 scaled points either way.
     TooLarge,
+    /// A divisor is 0.
+    DivZero,
+    /// A function has no value there, as a root of a negative number.
+    Domain,
+    /// The tokens are no expression.
+    Expression,
+    /// A definition isn't of its form.
+    MacroSyntax,
+    /// An argument is missing.
+    MacroArg,
+    /// More units would be paid than the budget has.
+    Budget,
+    /// A 129th level would open.
+    Levels,
+    /// The tokens are no coordinate.
+    Coordinate,
     /// A file has more than 16,777,216 bytes.
     TooLong,
     /// The source has a form that isn't built.
