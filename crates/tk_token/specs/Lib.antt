@@ -1,6 +1,7 @@
 pub mod Answers
 pub mod Cutting
 pub mod Fix
+pub mod Groups
 pub mod Pieces
 pub mod Places
 pub mod Refusals

@@ -1,0 +1,5 @@
+pub mod Arguments
+pub mod Expand
+pub mod Stack
+pub mod Stops
+pub mod Unread

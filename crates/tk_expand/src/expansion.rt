@@ -1,0 +1,127 @@
+//! Macro calls: their arguments, their texts, and what they cost.
+
+ghost use Rattle.std.specs.Prelude.{◌≡◌, ◌+◌, ◌-◌, ◌≤◌, [], ◌++◌, length, map, IfOk, IfNone, OnOk};
+ghost use Rattle.std.specs.Option.{option_to_list, option_map};
+ghost use Rattle.tk_token.specs.Groups.{cut};
+ghost use Rattle.tk_token.specs.Refusals.{Gives};
+ghost use Rattle.tk_expand.specs.Arguments.{arguments_of, given, with_arguments, meant_by, text_of};
+ghost use Rattle.tk_expand.specs.Expand.{left, replaced, front, full};
+
+use crate::{Input, Units};
+use std::alloc::{AllocError, Global};
+use tk_store::{Body, Macro, Store};
+use tk_token::{Kind, Refusal, Tok};
+
+impl Input {
+    /// Takes the token in front once no macro call is in front; there is none exactly at the end. Each call in front is
+    /// paid for, and its text takes its place. The faults are `MacroArg` and `Budget` at the word of a call.
+    pub fn next(&mut self, store: &Store, units: &mut Units) -> Result<Option<Tok>, Refusal>
+        ensures gives { Gives (λ tok. left units.new.used (option_to_list tok ++ self.new.rest)) result
+            (front units.old.budget store.now.top.macros (left units.old.used self.old.rest)) }
+        ensures none { IfOk result (λ tok. IfNone tok (self.new.rest ≡ [])) }
+        ensures end { OnOk result (self.new.end ≡ self.old.end) }
+        ensures budget { units.new.budget ≡ units.old.budget }
+
+        // A turn spends units or takes a token, so that it never has more work left than before.
+        ensures used { OnOk result (units.old.used ≤ units.new.used) }
+        ensures work { IfOk result (λ tok. (units.new.budget - units.new.used) + length (option_to_list tok ++ self.new.rest)
+            ≤ (units.old.budget - units.old.used) + length self.old.rest) }
+    {
+        while let Some(tok) = self.raw() {
+            let Kind::Word(name) = tok.kind else {
+                return Ok(Some(tok));
+            };
+            let Some(called) = store.get_macro(name) else {
+                return Ok(Some(tok));
+            };
+            self.replace(called, tok.at, units)?;
+        }
+        Ok(None)
+    }
+
+    /// Pays for a call whose word was taken, and puts its text in its place.
+    fn replace(&mut self, called: &Macro, at: u32, units: &mut Units) -> Result<(), Refusal>
+        ensures gives { Gives (λ _. left units.new.used self.new.rest) result (replaced units.old.budget units.old.used called.now at self.old.rest) }
+        ensures end { OnOk result (self.new.end ≡ self.old.end) }
+        ensures budget { units.new.budget ≡ units.old.budget }
+    {
+        let text = self.text(called, at)?;
+        units.pay(1 + text.as_slice().len() as u64, at)?;
+        self.push(text)?;
+        Ok(())
+    }
+
+    /// The text of a call whose word was taken. Its arguments are taken.
+    fn text(&mut self, called: &Macro, at: u32) -> Result<Body, Refusal>
+        ensures gives { Gives (λ text. cut text self.new.rest) result (text_of called.now at self.old.rest) }
+        ensures end { OnOk result (self.new.end ≡ self.old.end) }
+    {
+        if called.args == 0 {
+            return Ok(called.body.copy()?);
+        }
+        let arguments = self.arguments(called.args, at)?;
+        let text = with_arguments(self.allocator(), &arguments, called.body.as_slice())?;
+        Ok(Body::from_vec(text)?)
+    }
+
+    /// Takes so many arguments.
+    fn arguments(&mut self, count: u8, at: u32) -> Result<Vec<Vec<Tok>>, Refusal>
+        ensures gives { Gives (λ texts. given (map (λ text. text.items) texts.items) self.new.rest) result (arguments_of at count self.old.rest) }
+        ensures end { OnOk result (self.new.end ≡ self.old.end) }
+    {
+        let mut arguments = Vec::new(self.allocator());
+        for _ in 0..count {
+            arguments.push(self.argument(at)?)?;
+        }
+        Ok(arguments)
+    }
+}
+
+/// The body with its arguments put in.
+fn with_arguments(
+    alloc: Global,
+    arguments: &[Vec<Tok>],
+    body: &[Tok],
+) -> Result<Vec<Tok>, AllocError>
+    ensures { IfOk result (λ text. text.items ≡ with_arguments (map (λ argument. argument.items) arguments.now) body.now) }
+{
+    let mut text = Vec::new(alloc);
+    for tok in body {
+        match argument_at(arguments, tok.kind) {
+            Some(argument) => text.extend_from_slice(argument)?,
+            None => text.push(*tok)?,
+        }
+    }
+    Ok(text)
+}
+
+/// The argument whose place that is.
+fn argument_at(arguments: &[Vec<Tok>], place: Kind) -> Option<&[Tok]>
+    ensures { (t : Tok) → unwrap_or (option_map (λ argument. argument.now) result) (t ∷ []) ≡ meant_by (map (λ argument. argument.items) arguments.now) place t }
+{
+    let Kind::Arg(n) = place else {
+        return None;
+    };
+    let argument = arguments.get((n as usize).saturating_sub(1))?;
+    Some(argument.as_slice())
+}
+
+/// The list with no macro call left.
+pub fn expand_all(
+    alloc: Global,
+    list: &[Tok],
+    store: &Store,
+    units: &mut Units,
+) -> Result<Vec<Tok>, Refusal>
+    ensures gives { Gives (λ text. left units.new.used text.items) result
+        (full units.old.budget store.now.top.macros (left units.old.used list.now)) }
+    ensures budget { units.new.budget ≡ units.old.budget }
+    ensures used { OnOk result (units.old.used ≤ units.new.used) }
+{
+    let mut input = Input::new(alloc, Body::new(alloc, list)?, 0)?;
+    let mut text = Vec::new(alloc);
+    while let Some(tok) = input.next(store, units)? {
+        text.push(tok)?;
+    }
+    Ok(text)
+}
