@@ -9,6 +9,7 @@ ghost use Rattle.tk_expand.specs.Expand.{left, replaced, front, full};
 
 use crate::{Input, Units};
 use std::alloc::{AllocError, Global};
+use std::slice;
 use tk_store::{Body, Macro, Store};
 use tk_token::{Kind, Refusal, Tok};
 
@@ -87,23 +88,23 @@ fn with_arguments(
 {
     let mut text = Vec::new(alloc);
     for tok in body {
-        match argument_at(arguments, tok.kind) {
-            Some(argument) => text.extend_from_slice(argument)?,
-            None => text.push(*tok)?,
-        }
+        text.extend_from_slice(meant_by(arguments, tok))?;
     }
     Ok(text)
 }
 
-/// The argument whose place that is.
-fn argument_at(arguments: &[Vec<Tok>], place: Kind) -> Option<&[Tok]>
-    ensures { (t : Tok) → unwrap_or (option_map (λ argument. argument.now) result) (t ∷ []) ≡ meant_by (map (λ argument. argument.items) arguments.now) place t }
+/// What a token of a body stands for.
+fn meant_by<'a>(arguments: &'a [Vec<Tok>], tok: &'a Tok) -> &'a [Tok]
+    ensures { result.now ≡ meant_by (map (λ argument. argument.items) arguments.now) tok.now.kind tok.now }
 {
-    let Kind::Arg(n) = place else {
-        return None;
+    let itself = slice::from_ref(tok);
+    let Kind::Arg(n) = tok.kind else {
+        return itself;
     };
-    let argument = arguments.get((n as usize).saturating_sub(1))?;
-    Some(argument.as_slice())
+    match arguments.get((n as usize).saturating_sub(1)) {
+        Some(argument) => argument.as_slice(),
+        None => itself,
+    }
 }
 
 /// The list with no macro call left.
