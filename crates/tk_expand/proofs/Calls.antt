@@ -1,14 +1,17 @@
 -- The arguments of a call, one after the other.
 use Rattle.std.proofs.Common.{◌≡◌, ℕ, zero, suc, List, [], ◌∷◌, ◌++◌, map, Ok, Err, refl, sym, ap, subst, ◌∙◌, append_assoc}
 use Rattle.std.proofs.lemmas.List.{append-nil}
+use Rattle.tk_token.specs.declared.Kind.{Kind}
+use Rattle.tk_token.specs.declared.Kind.TheVariants.{Char, Word, Symbol, Open, Close, Param, Arg, Space}
 use Rattle.tk_token.specs.declared.Tok.{Tok}
 use Rattle.tk_token.specs.declared.Refusal.{Refusal}
 use Rattle.tk_token.specs.declared.Code.TheVariants.{MacroArg}
 use Rattle.tk_token.specs.Answers.{Answer, ◌>>=◌, or_fault}
-use Rattle.tk_token.specs.Groups.{Cut}
+use Rattle.tk_token.specs.Groups.{Cut, cut}
 use Rattle.tk_token.specs.Refusals.{Fails}
 use Rattle.tk_token.proofs.Answering.{fails_then, fails_as, then_is}
-use Rattle.tk_expand.specs.Arguments.{argument_of, Arguments, given, arguments_of}
+use Rattle.tk_store.specs.declared.Macro.{Macro}
+use Rattle.tk_expand.specs.Arguments.{argument_of, Arguments, given, arguments_of, meant_by, with_arguments, text_of}
 
 -- arguments that were taken stand before those of the answer
 abbrev pub with_taken : List (List Tok) → Answer Arguments → Answer Arguments
@@ -44,3 +47,25 @@ module _ (at n : ℕ) (texts : List (List Tok)) (rest : List Tok) (answer : Answ
         joined : (r : Answer Arguments) → with_taken texts (r >>= λ more. Ok (given (c.front ∷ more.texts) more.rest)) ≡ with_taken (texts ++ c.front ∷ []) r
         joined (Ok a) = ap (λ (ts : List (List Tok)). (let r : Answer Arguments = Ok (given ts a.rest) in r)) (sym (append_assoc texts (c.front ∷ []) a.texts))
         joined (Err e) = refl
+
+-- without arguments each token of a body stands for itself
+itself : (k : Kind) (t : Tok) → meant_by [] k t ≡ t ∷ []
+itself (Arg n) t = refl
+itself (Char c) t = refl
+itself (Word w) t = refl
+itself (Symbol c) t = refl
+itself Open t = refl
+itself Close t = refl
+itself Param t = refl
+itself Space t = refl
+
+without_arguments : (body : List Tok) → with_arguments [] body ≡ body
+without_arguments [] = refl
+without_arguments (t ∷ ts) = ap (λ (us : List Tok). us ++ with_arguments [] ts) (itself t.kind t) ∙ ap (λ (us : List Tok). t ∷ us) (without_arguments ts)
+
+-- a call without arguments stands for the body
+pub plain_text : (called : Macro) (at : ℕ) (ts : List Tok) → called.args ≡ 0 → text_of called at ts ≡ Ok (cut called.body ts)
+unfolding text_of arguments_of
+plain_text called at ts none =
+    ap (λ (n : ℕ). arguments_of at n ts >>= λ arguments. Ok (cut (with_arguments arguments.texts called.body) arguments.rest)) none
+    ∙ ap (λ (body : List Tok). (let c : Answer Cut = Ok (cut body ts) in c)) (without_arguments called.body)

@@ -41,6 +41,7 @@ impl Input {
     }
 
     /// Pays for a call whose word was taken, and puts its text in its place.
+    #[tactic(auto, unfolding(crate::specs::Expand::replaced))]
     fn replace(&mut self, called: &Macro, at: u32, units: &mut Units) -> Result<(), Refusal>
         ensures gives { Gives (λ _. left units.new.used self.new.rest) result (replaced units.old.budget units.old.used called.now at self.old.rest) }
         ensures end { OnOk result (self.new.end ≡ self.old.end) }
@@ -53,6 +54,7 @@ impl Input {
     }
 
     /// The text of a call whose word was taken. Its arguments are taken.
+    #[tactic(auto, using(crate::proofs::Calls::plain_text), unfolding(crate::specs::Arguments::text_of))]
     fn text(&mut self, called: &Macro, at: u32) -> Result<Body, Refusal>
         ensures gives { Gives (λ text. cut text self.new.rest) result (text_of called.now at self.old.rest) }
         ensures end { OnOk result (self.new.end ≡ self.old.end) }
