@@ -1,0 +1,6 @@
+pub mod Arguments
+pub mod Expand
+pub mod Stack
+pub mod Stops
+pub mod Texts
+pub mod Unread
