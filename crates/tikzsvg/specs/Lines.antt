@@ -2,12 +2,17 @@
 use Rattle.std.specs.Prelude.{ℕ, List, ◌++◌, codes, decimal}
 use Rattle.tk_token.specs.declared.Fault.{Fault}
 use Rattle.tk_token.specs.declared.Code.{Code}
-use Rattle.tk_token.specs.declared.Code.TheVariants.{TooLarge, TooLong, Unbuilt}
+use Rattle.tk_token.specs.declared.Code.TheVariants.{TooDeep, TooLarge, DivZero, Domain, Expression, Coordinate, TooLong, Unbuilt}
 use Rattle.tk_token.specs.Places.{line_of, column_of}
 
 -- the name of a fault
 abbrev pub name_of : Code → List ℕ
+name_of TooDeep = codes "TooDeep"
 name_of TooLarge = codes "TooLarge"
+name_of DivZero = codes "DivZero"
+name_of Domain = codes "Domain"
+name_of Expression = codes "Expression"
+name_of Coordinate = codes "Coordinate"
 name_of TooLong = codes "TooLong"
 name_of Unbuilt = codes "Unbuilt"
 

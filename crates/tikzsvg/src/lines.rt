@@ -18,7 +18,12 @@ fn code_name(code: Code) -> &'static str
     ensures { result.now ≡ text.name_of code }
 {
     match code {
+        Code::TooDeep => "TooDeep",
         Code::TooLarge => "TooLarge",
+        Code::DivZero => "DivZero",
+        Code::Domain => "Domain",
+        Code::Expression => "Expression",
+        Code::Coordinate => "Coordinate",
         Code::TooLong => "TooLong",
         Code::Unbuilt => "Unbuilt",
     }

@@ -48,8 +48,19 @@ pub struct Tok {
 /// What is wrong with a source.
 #[derive(Clone, Copy, Debug, PartialEq, Eq)]
 pub enum Code {
+    /// An expression has more than 64 open parentheses, calls and `?`.
+    TooDeep,
     /// A value lies past 1,073,741,823 scaled points either way.
     TooLarge,
+    /// A divisor is zero.
+    DivZero,
+    /// A value lies outside the domain of its function: the root of a negative number, or a power whose exponent isn't
+    /// whole.
+    Domain,
+    /// The tokens of an expression aren't in its grammar.
+    Expression,
+    /// A coordinate has none of the forms of a coordinate.
+    Coordinate,
     /// A file has more than 16,777,216 bytes.
     TooLong,
     /// The source has a form that isn't built.

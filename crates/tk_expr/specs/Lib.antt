@@ -1,0 +1,10 @@
+pub mod Evaluated
+pub mod Evaluates
+pub mod Faults
+pub mod Grammar
+pub mod Machine
+pub mod Number
+pub mod Pairs
+pub mod Pieces
+pub mod Tree
+pub mod Values
