@@ -8,7 +8,7 @@ use Rattle.tk_expr.specs.declared.operators.Operator.TheVariants.{Raise, Multipl
 use Rattle.tk_expr.specs.declared.operators.Prefix.{Prefix}
 use Rattle.tk_expr.specs.declared.operators.Prefix.TheVariants.{Negate, Keep, Not}
 use Rattle.tk_expr.specs.declared.operators.Truth.{Truth}
-use Rattle.tk_expr.specs.declared.operators.Truth.TheVariants.{Number as AsNumber, Affirmed, Denied}
+use Rattle.tk_expr.specs.declared.operators.Truth.TheVariants.{Itself, Affirmed, Denied}
 use Rattle.tk_expr.specs.declared.operators.Signs.{Signs}
 use Rattle.tk_expr.specs.declared.pieces.One.{One}
 use Rattle.tk_expr.specs.declared.pieces.Two.{Two}
@@ -43,17 +43,17 @@ pub record State : Type 0 where
 
 -- no signs
 abbrev pub no_signs : Signs
-no_signs = record { negative = false; truth = AsNumber }
+no_signs = record { negative = false; truth = Itself }
 
 -- signs with a `!` further in
 abbrev pub with_not : Truth → Truth
-with_not AsNumber = Denied
+with_not Itself = Denied
 with_not Denied = Affirmed
 with_not Affirmed = Denied
 
 -- signs with a `-` further in, which no `!` can tell from none
 abbrev pub with_minus : Truth → Signs → Signs
-with_minus AsNumber s = record s { negative = not s.negative }
+with_minus Itself s = record s { negative = not s.negative }
 with_minus _ s = s
 
 -- signs with one more sign further in
@@ -64,17 +64,17 @@ with_prefix Not s = record s { truth = with_not s.truth }
 
 -- what a count of `!` makes of a number
 abbrev pub as_truth : Truth → ℤ → ℤ
-as_truth AsNumber x = x
+as_truth Itself x = x
 as_truth Affirmed x = truth (is_true x)
 as_truth Denied x = truth (not (is_true x))
 
 -- what signs make of a number
-abbrev pub signed : Signs → ℤ → ℤ
-signed s x = if s.negative then prefixed Negate (as_truth s.truth x) else as_truth s.truth x
+abbrev pub signed_by : Signs → ℤ → ℤ
+signed_by s x = if s.negative then prefixed Negate (as_truth s.truth x) else as_truth s.truth x
 
 -- what signs make of a number that may be a fault
 abbrev pub signed_found : Signs → Found → Found
-signed_found s x = x >>= λ v. Ok (signed s v)
+signed_found s x = x >>= λ v. Ok (signed_by s v)
 
 -- ---- operators
 
@@ -153,8 +153,8 @@ pub record Closed : Type 0 where
   pub frames : List Frame
 
 -- what a `?`, its `:` and the value behind that come to
-abbrev pub choice : Found → Found → Found → Found
-choice c x y = do
+abbrev pub choice_found : Found → Found → Found → Found
+choice_found c x y = do
   b ← c
   v ← x
   w ← y
@@ -163,7 +163,7 @@ choice c x y = do
 -- the end of an expression: each `?` that has its `:` ends with it
 abbrev pub closed : Found → List Frame → Closed
 closed v [] = record { value = v; frames = [] }
-closed v (Else c x ∷ frames) = closed (choice c x v) frames
+closed v (Else c x ∷ frames) = closed (choice_found c x v) frames
 closed v (frame ∷ frames) = record { value = v; frames = frame ∷ frames }
 
 -- the end of the innermost expression, behind its last operand
@@ -183,19 +183,19 @@ abbrev pub outside : Found → Pending → List Frame → State → State
 outside v saved frames s = record { mode = After v; pending = saved; frames = frames; unit = s.unit }
 
 -- the value of a call
-abbrev pub call_one : One → ℕ → Found → Found
-call_one f at x = x >>= λ v. placed at (called_one f v)
+abbrev pub one_found : One → ℕ → Found → Found
+one_found f at x = x >>= λ v. placed at (called_one f v)
 
-abbrev pub call_two : Two → ℕ → Found → Found → Found
-call_two f at x y = do
+abbrev pub two_found : Two → ℕ → Found → Found → Found
+two_found f at x y = do
   v ← x
   w ← y
   placed at (called_two f v w)
 
 -- the least or greatest of the arguments so far
-abbrev pub call_most : Most → Option Found → Found → Found
-call_most f None y = y
-call_most f (Some x) y = do
+abbrev pub most_found : Most → Option Found → Found → Found
+most_found f None y = y
+most_found f (Some x) y = do
   v ← x
   w ← y
   Ok (called_most f v w)
@@ -203,10 +203,10 @@ call_most f (Some x) y = do
 -- a `)` at that place, behind a value; a call with too few arguments is refused at its name
 abbrev pub bracket_ends : ℕ → Bracket → Found → Pending → List Frame → State → Answer State
 bracket_ends at Plain v saved frames s = Ok (outside v saved frames s)
-bracket_ends at (Only f name) v saved frames s = Ok (outside (call_one f name v) saved frames s)
+bracket_ends at (Only f name) v saved frames s = Ok (outside (one_found f name v) saved frames s)
 bracket_ends at (First f name) v saved frames s = fault Expression name
-bracket_ends at (Second f name x) v saved frames s = Ok (outside (call_two f name x v) saved frames s)
-bracket_ends at (Each f x) v saved frames s = Ok (outside (call_most f x v) saved frames s)
+bracket_ends at (Second f name x) v saved frames s = Ok (outside (two_found f name x v) saved frames s)
+bracket_ends at (Each f x) v saved frames s = Ok (outside (most_found f x v) saved frames s)
 
 abbrev pub right : ℕ → Found → List Frame → State → Answer State
 right at v (Inside bracket saved ∷ frames) s = bracket_ends at bracket v saved frames s
@@ -218,7 +218,7 @@ bracket_goes_on at Plain v saved frames s = fault Expression at
 bracket_goes_on at (Only f name) v saved frames s = fault Expression name
 bracket_goes_on at (First f name) v saved frames s = Ok (wanted_in (Inside (Second f name v) saved ∷ frames) s)
 bracket_goes_on at (Second f name x) v saved frames s = fault Expression name
-bracket_goes_on at (Each f x) v saved frames s = Ok (wanted_in (Inside (Each f (Some (call_most f x v))) saved ∷ frames) s)
+bracket_goes_on at (Each f x) v saved frames s = Ok (wanted_in (Inside (Each f (Some (most_found f x v))) saved ∷ frames) s)
 
 abbrev pub comma : ℕ → Found → List Frame → State → Answer State
 comma at v (Inside bracket saved ∷ frames) s = bracket_goes_on at bracket v saved frames s
@@ -236,14 +236,14 @@ abbrev pub to_mode : Mode → State → Answer State
 to_mode mode s = Ok (record s { mode = mode })
 
 -- a sign before an exponent
-abbrev pub exponent_sign : Prefix → ℕ → State → Answer State
-exponent_sign Not at s = fault Expression at
-exponent_sign sign at s = Ok (record s { mode = Wanted; pending = record s.pending { exponent = with_prefix sign s.pending.exponent } })
+abbrev pub sign_exponent : Prefix → ℕ → State → Answer State
+sign_exponent Not at s = fault Expression at
+sign_exponent sign at s = Ok (record s { mode = Wanted; pending = record s.pending { exponent = with_prefix sign s.pending.exponent } })
 
 -- a sign before an operand
-abbrev pub sign_in : Option Waiting → Prefix → ℕ → State → Answer State
-sign_in None sign at s = Ok (record s { mode = Wanted; pending = record s.pending { signs = with_prefix sign s.pending.signs } })
-sign_in (Some w) sign at s = exponent_sign sign at s
+abbrev pub sign_operand : Option Waiting → Prefix → ℕ → State → Answer State
+sign_operand None sign at s = Ok (record s { mode = Wanted; pending = record s.pending { signs = with_prefix sign s.pending.signs } })
+sign_operand (Some w) sign at s = sign_exponent sign at s
 
 -- where an operand is wanted
 abbrev pub begin : Mark → ℕ → State → Answer State
@@ -253,9 +253,9 @@ begin Pi at s = to_mode (After (Ok pi_value)) s
 begin (Single f) at s = to_mode (Named (Only f at)) s
 begin (Double f) at s = to_mode (Named (First f at)) s
 begin (Several f) at s = to_mode (Named (Each f None)) s
-begin Minus at s = sign_in s.pending.power Negate at s
-begin Plus at s = sign_in s.pending.power Keep at s
-begin Bang at s = sign_in s.pending.power Not at s
+begin Minus at s = sign_operand s.pending.power Negate at s
+begin Plus at s = sign_operand s.pending.power Keep at s
+begin Bang at s = sign_operand s.pending.power Not at s
 begin Left at s = opened at (Inside Plain s.pending) s
 begin Gap at s = to_mode Wanted s
 begin _ at s = fault Expression at

@@ -31,7 +31,7 @@ pub enum Prefix {
 pub enum Truth {
     /// No `!`: the number itself.
     #[default]
-    Number,
+    Itself,
     /// An even count: whether it isn't 0.
     Affirmed,
     /// An odd count: whether it is 0.
