@@ -24,6 +24,7 @@ use Rattle.tk_expr.specs.declared.machine.Frame.{Frame}
 use Rattle.tk_expr.specs.declared.machine.Frame.TheVariants.{Inside, Then, Else}
 use Rattle.tk_expr.specs.declared.machine.Mode.{Mode}
 use Rattle.tk_expr.specs.declared.machine.Mode.TheVariants.{Wanted, Ordered, Half, Named, Dot, Number, Measured, After}
+use Rattle.tk_expr.specs.declared.machine.State.{State}
 use Rattle.tk_expr.specs.declared.Value.{Value}
 use Rattle.tk_expr.specs.Number.{Decimal, no_digits, with_digit, with_point, plain_value, unit_value}
 use Rattle.tk_expr.specs.Values.{placed, truth, is_true, prefixed, operated, chosen, in_unit, in_degrees, pi_value, called_one, called_two, called_most}
@@ -31,13 +32,6 @@ use Rattle.tk_expr.specs.Values.{placed, truth, is_true, prefixed, operated, cho
 -- a number, or the first fault on the way to it
 abbrev pub Found : Type 0
 Found = Answer ℤ
-
--- What was read last; what waits in the innermost expression; what is open, innermost first; and whether a unit was read.
-pub record State : Type 0 where
-  pub mode : Mode
-  pub pending : Pending
-  pub frames : List Frame
-  pub unit : Bool
 
 -- ---- signs
 
@@ -165,6 +159,11 @@ abbrev pub closed : Found → List Frame → Closed
 closed v [] = record { value = v; frames = [] }
 closed v (Else c x ∷ frames) = closed (choice_found c x v) frames
 closed v (frame ∷ frames) = record { value = v; frames = frame ∷ frames }
+
+-- whether the innermost is a `?` that has its `:`
+abbrev pub is_choice : List Frame → Bool
+is_choice (Else c x ∷ frames) = true
+is_choice _ = false
 
 -- the end of the innermost expression, behind its last operand
 abbrev pub closed_behind : Found → State → Closed

@@ -1,10 +1,12 @@
 //! Expressions: the value of a text in the grammar of TikZ's arithmetic, and the pairs of coordinates.
 #![tactic(auto)]
 
+mod frames;
 mod machine;
 mod number;
 mod operators;
 mod pieces;
+mod values;
 
 use tk_num::Scaled;
 
