@@ -6,5 +6,6 @@ pub mod Machine
 pub mod Number
 pub mod Pairs
 pub mod Pieces
+pub mod Steps
 pub mod Tree
 pub mod Values

@@ -1,5 +1,6 @@
 -- The machine that reads an expression piece by piece, without a tree. The law in Evaluates says what it computes.
 use Rattle.std.specs.Prelude.{ℕ, Bool, true, false, not, nat_lt, if◌then◌else◌, List, [], ◌∷◌, length, Option, Some, None, is_some, Ok, ℤ}
+use Rattle.tk_num.specs.declared.unit.Unit.{Unit}
 use Rattle.tk_token.specs.declared.Code.TheVariants.{TooDeep, Expression}
 use Rattle.tk_token.specs.Answers.{Answer, ◌>>=◌, fault}
 use Rattle.tk_expr.specs.declared.FontUnits.{FontUnits}
@@ -289,10 +290,18 @@ operator o mode at x s = Ok (record s { mode = mode; pending = waits o at x s.pe
 abbrev pub comparison : Operator → Mode → ℕ → Found → State → Answer State
 comparison o mode at x s = if is_some s.pending.comparison then fault Expression at else operator o mode at x s
 
+-- a number in a unit
+abbrev pub unit_found : FontUnits → Unit → ℕ → Found → Found
+unit_found font unit at x = x >>= λ v. placed at (in_unit font unit v)
+
+-- radians in degrees
+abbrev pub degrees_found : ℕ → Found → Found
+degrees_found at x = x >>= λ v. placed at (in_degrees v)
+
 -- behind an operand
 abbrev pub after : FontUnits → Found → Mark → ℕ → State → Answer State
-after font x (Measure unit) at s = Ok (record s { mode = After (x >>= λ v. placed at (in_unit font unit v)); unit = true })
-after font x Radian at s = to_mode (After (x >>= λ v. placed at (in_degrees v))) s
+after font x (Measure unit) at s = Ok (record s { mode = After (unit_found font unit at x); unit = true })
+after font x Radian at s = to_mode (After (degrees_found at x)) s
 after font x Caret at s = operator Raise Wanted at x s
 after font x Star at s = operator Multiply Wanted at x s
 after font x Slash at s = operator Divide Wanted at x s

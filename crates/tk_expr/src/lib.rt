@@ -6,6 +6,8 @@ mod machine;
 mod number;
 mod operators;
 mod pieces;
+mod settle;
+mod steps;
 mod values;
 
 use tk_num::Scaled;

@@ -230,7 +230,11 @@ fn sign_of(x: Scaled) -> Scaled
     if x.sp() == 0 {
         return number(0);
     }
-    if x.sp() < 0 { number(-65536) } else { number(65536) }
+    if x.sp() < 0 {
+        number(-65536)
+    } else {
+        number(65536)
+    }
 }
 
 /// What a function makes of its one argument.
