@@ -1,3 +1,5 @@
+pub mod Fronts
+pub mod Letters
 pub mod Powers
 pub mod Roots
 pub mod Stacks

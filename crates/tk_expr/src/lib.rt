@@ -1,6 +1,7 @@
 //! Expressions: the value of a text in the grammar of TikZ's arithmetic, and the pairs of coordinates.
 #![tactic(auto)]
 
+mod evaluation;
 mod frames;
 mod machine;
 mod number;
@@ -10,6 +11,7 @@ mod settle;
 mod steps;
 mod values;
 
+pub use evaluation::eval;
 use tk_num::Scaled;
 
 /// The units of the font, in scaled points.
