@@ -161,11 +161,6 @@ closed v [] = record { value = v; frames = [] }
 closed v (Else c x ∷ frames) = closed (choice_found c x v) frames
 closed v (frame ∷ frames) = record { value = v; frames = frame ∷ frames }
 
--- whether anything is open
-abbrev pub is_open : List Frame → Bool
-is_open [] = false
-is_open (frame ∷ frames) = true
-
 -- whether the innermost is a `?` that has its `:`
 abbrev pub is_choice : List Frame → Bool
 is_choice (Else c x ∷ frames) = true

@@ -18,8 +18,8 @@ use tk_token::{Fault, Tok};
 fn end_of(list: &[Tok], at: u32) -> u32
     ensures { (names : List (List ℕ)) → result ≡ spec.end_of at (map (token_of names) list.now) }
 {
-    match list.last() {
-        Some(last) => last.at,
+    match list.split_last() {
+        Some((last, _)) => last.at,
         None => at,
     }
 }
@@ -57,14 +57,24 @@ impl State {
             return Err(misfit(end));
         };
         let value = self.close(x);
-        if self.frames.is_open() {
-            return Err(misfit(end));
+        match self.frames.pop() {
+            None => Ok(Value {
+                number: value?,
+                unit: self.unit,
+            }),
+            Some(_) => Err(misfit(end)),
         }
-        Ok(Value {
-            number: value?,
-            unit: self.unit,
-        })
     }
+}
+
+/// The value of an expression; `at` is the place of an empty one.
+#[tactic(auto, unfolding(crate::specs::Evaluated::evaluated))]
+pub(crate) fn evaluate(list: &[Tok], font: &FontUnits, at: u32) -> Result<Value, Fault>
+    ensures { (names : List (List ℕ)) → result ≡ spec.evaluated font.now at (map (token_of names) list.now) }
+{
+    let mut state = State::new();
+    state.run(font, list)?;
+    state.finish(font, end_of(list, at))
 }
 
 /// The value of an expression, and whether a unit stands anywhere in it.
@@ -75,11 +85,8 @@ impl State {
 /// them, or `at` where there is none. `TooDeep` stands at a 65th open parenthesis, call or `?`. Then the
 /// value is found, left to right: `TooLarge`, `DivZero` and `Domain` stand at the decimal, operator or
 /// name.
-#[tactic(auto, unfolding(crate::specs::Evaluated::evaluated))]
 pub fn eval(list: &[Tok], font: FontUnits, at: u32) -> Result<Value, Fault>
     ensures gives { (names : List (List ℕ)) → result ≡ spec.evaluated font at (map (token_of names) list.now) }
 {
-    let mut state = State::new();
-    state.run(&font, list)?;
-    state.finish(&font, end_of(list, at))
+    evaluate(list, &font, at)
 }

@@ -42,13 +42,6 @@ impl Frames {
         }
     }
 
-    /// Whether any is open.
-    pub(crate) fn is_open(&self) -> bool
-        ensures { result ≡ spec.is_open self.now }
-    {
-        self.len > 0
-    }
-
     /// Opens one more, at that place; TooDeep where 64 are open.
     pub(crate) fn push(&mut self, frame: Frame, at: u32) -> Result<(), Fault>
         ensures room { OnOk result (nat_lt (length self.old) 64 ≡ true) }

@@ -6,12 +6,14 @@ mod frames;
 mod machine;
 mod number;
 mod operators;
+mod pairs;
 mod pieces;
 mod settle;
 mod steps;
 mod values;
 
 pub use evaluation::eval;
+pub use pairs::{pair, vector};
 use tk_num::Scaled;
 
 /// The units of the font, in scaled points.
