@@ -1,19 +1,18 @@
 -- Runs of letters in front of tokens.
-use Rattle.std.proofs.Common.{◌≡◌, ℕ, ◌+◌, ◌<◌, ◌≤◌, Bool, true, false, not, ◌&&◌, cond, leb, List, [], ◌∷◌, length, map, take, drop, refl, sym, ap, ◌∙◌, arith, one-add, codes}
-use Rattle.std.specs.List.{prefix_len, list_all}
+use Rattle.std.proofs.Common.{◌≡◌, ℕ, ◌<◌, ◌≤◌, Bool, true, false, ◌&&◌, leb, List, [], ◌∷◌, length, map, take, drop, refl, ap, arith, one-add}
+use Rattle.std.specs.List.{prefix_len}
 use Rattle.std.specs.Str.{bytes_eq}
 use Rattle.std.proofs.lemmas.Bool.{leb-true}
 use Rattle.std.proofs.lemmas.Bool.Decides.{nat_tests}
 use Rattle.std.proofs.lemmas.Slice.Eq.{bytes_eq-Decides}
 use Rattle.tk_token.proofs.Ascii.{front_and, back_and}
 use Rattle.tk_token.specs.Cutting.{is_letter}
-use Rattle.tk_token.specs.Token.{Sign, A_char, Token, token_of, sign_of}
+use Rattle.tk_token.specs.Token.{token_of}
 use Rattle.tk_token.specs.declared.Kind.{Kind}
 use Rattle.tk_token.specs.declared.Kind.TheVariants.{Char, Word, Symbol, Open, Close, Param, Arg, Space}
 use Rattle.tk_token.specs.declared.Tok.{Tok}
 use Rattle.tk_expr.specs.declared.pieces.Mark.TheVariants.{Word as Word_mark}
-use Rattle.tk_expr.specs.declared.pieces.Piece.{Piece}
-use Rattle.tk_expr.specs.Pieces.{Lump, Run, Alone, with_letter, with_sign, lumps_of, piece_of, pieces_of, word_mark, Row, rows, mark_in}
+use Rattle.tk_expr.specs.Pieces.{Lump, Run, with_letter, lumps_of, piece_of, pieces_of, word_mark, Row, rows, mark_in}
 use Rattle.tk_expr.specs.Runs.{is_letter_kind, is_letter_tok, letter_of, letter_of_kind}
 
 -- the lumps of tokens whose words go by their names

@@ -1,6 +1,5 @@
 -- Powers, product by product.
-use Rattle.std.proofs.Common.{◌≡◌, ℕ, zero, suc, ◌+◌, ◌-◌, ◌≤◌, refl, ap, sym, ◌∙◌, arith, subst, inl, inr, Result, Ok, Err, ℤ, pos}
-use Rattle.std.proofs.lemmas.Bool.{cases_lt}
+use Rattle.std.proofs.Common.{◌≡◌, ℕ, zero, suc, ◌+◌, ◌-◌, ◌≤◌, ap, sym, ◌∙◌, arith, subst, Ok, Err, ℤ}
 use Rattle.tk_num.specs.Number.{scaled, product}
 use Rattle.tk_num.specs.declared.NumFault.{NumFault}
 use Rattle.tk_expr.specs.Values.{power, times}

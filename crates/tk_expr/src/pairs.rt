@@ -25,6 +25,22 @@ pub enum Sought {
     And,
 }
 
+/// The first tokens, so many.
+fn first_of(list: &[Tok], n: usize) -> &[Tok]
+    requires { n ≤ length list.now }
+    ensures { (names : List (List ℕ)) → tokens_of names result.now ≡ take n (tokens_of names list.now) }
+{
+    list.split_at(n).0
+}
+
+/// The tokens behind the first ones, so many.
+fn behind(list: &[Tok], n: usize) -> &[Tok]
+    requires { n ≤ length list.now }
+    ensures { (names : List (List ℕ)) → tokens_of names result.now ≡ drop n (tokens_of names list.now) }
+{
+    list.split_at(n).1
+}
+
 /// How many braces are open behind a token.
 fn depth_behind(kind: Kind, depth: usize) -> usize
     requires { depth < 18446744073709551615 }
@@ -131,6 +147,7 @@ fn are_spaces(list: &[Tok]) -> bool
 }
 
 /// The tokens after the gaps in front.
+#[tactic(auto, using(crate::proofs::Places::space_passed))]
 fn after_spaces(list: &[Tok]) -> &[Tok]
     ensures { (names : List (List ℕ)) → tokens_of names result.now ≡ spec.after_spaces (tokens_of names list.now) }
 {
@@ -166,8 +183,8 @@ fn group_behind(list: &[Tok]) -> Option<&[Tok]>
     ensures { (names : List (List ℕ)) → option_map (λ inside. tokens_of names inside.now) result ≡ spec.group_at (tokens_of names list.now) (spec.closing 1 (tokens_of names list.now)) }
 {
     let n = closing(list)?;
-    if are_spaces(&list[n + 1..]) {
-        Some(&list[..n])
+    if are_spaces(behind(list, n + 1)) {
+        Some(first_of(list, n))
     } else {
         None
     }
@@ -225,8 +242,8 @@ fn radii(angle: Scaled, back: &[Tok], font: &FontUnits, at: u32) -> Result<Value
 {
     match find_outside(back, Sought::And) {
         Some(n) => {
-            let r = part_value(&back[..n], font, at)?;
-            let s = part_value(&back[n + 3..], font, at)?;
+            let r = part_value(first_of(back, n), font, at)?;
+            let s = part_value(behind(back, n + 3), font, at)?;
             Ok(ValuePair::Polar(angle, r, s))
         }
         None => {
@@ -250,8 +267,8 @@ fn formed(list: &[Tok], n: usize, font: &FontUnits, at: u32) -> Result<ValuePair
     requires { n < length list.now }
     ensures { (names : List (List ℕ)) → result ≡ spec.formed font.now at (tokens_of names list.now) n }
 {
-    let (front, back) = (&list[..n], &list[n + 1..]);
-    if begins(&list[n..], Sought::Comma) {
+    let (front, back) = (first_of(list, n), behind(list, n + 1));
+    if begins(behind(list, n), Sought::Comma) {
         plane(front, back, font, at)
     } else {
         polar(front, back, font, at)

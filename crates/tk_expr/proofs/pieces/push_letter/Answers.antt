@@ -1,4 +1,4 @@
-use Rattle.std.proofs.Common.{◌≡◌, ◌<◌, length, true, ap, subst, sym, arith, lit<}
+use Rattle.std.proofs.Common.{◌<◌, length, ap, subst, sym, arith, lit<}
 use Rattle.std.proofs.lemmas.Str.{encode_ascii}
 use Rattle.tk_expr.proofs.Letters.{letter_is_small}
 use Rattle.tk_expr.proofs.pieces.push_letter.Goals as goal
