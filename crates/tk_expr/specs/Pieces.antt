@@ -1,0 +1,114 @@
+-- Tokens as the pieces of an expression: a run of letters is one piece, every other token is one.
+use Rattle.std.specs.Prelude.{ℕ, ◌-◌, ◌==◌, if◌then◌else◌, List, [], ◌∷◌, map, codes}
+use Rattle.std.specs.Char.{is_ascii_digit}
+use Rattle.std.specs.Str.{bytes_eq}
+use Rattle.tk_num.specs.declared.unit.Unit.TheVariants as units
+use Rattle.tk_token.specs.Cutting.{is_letter}
+use Rattle.tk_token.specs.Token.{Sign, A_char, Opens, Closes, A_space, Token}
+use Rattle.tk_expr.specs.declared.pieces.Mark.{Mark}
+use Rattle.tk_expr.specs.declared.pieces.Mark.TheVariants.{Digit, Point, Measure, Radian, Pi, Single, Double, Several, Word, Plus, Minus, Star, Slash, Caret, Bar, Ampersand, Equals, Bang, Less, Greater, Question, Colon, Comma, Left, Right, Gap, Other}
+use Rattle.tk_expr.specs.declared.pieces.One.TheVariants.{Sin, Cos, Tan, Sqrt, Abs, Sign as Sgn, Floor, Ceil, Round, Int}
+use Rattle.tk_expr.specs.declared.pieces.Two.TheVariants.{Mod, Pow, Veclen}
+use Rattle.tk_expr.specs.declared.pieces.Most.TheVariants.{Min, Max}
+use Rattle.tk_expr.specs.declared.pieces.Piece.{Piece}
+
+-- a text and what it is
+pub record Row : Type 0 where
+  pub text : List ℕ
+  pub mark : Mark
+
+-- the units, `r`, `pi` and the names of functions
+abbrev pub rows : List Row
+rows =
+    record { text = codes "pt"; mark = Measure units.Pt } ∷
+    record { text = codes "pc"; mark = Measure units.Pc } ∷
+    record { text = codes "in"; mark = Measure units.In } ∷
+    record { text = codes "bp"; mark = Measure units.Bp } ∷
+    record { text = codes "cm"; mark = Measure units.Cm } ∷
+    record { text = codes "mm"; mark = Measure units.Mm } ∷
+    record { text = codes "dd"; mark = Measure units.Dd } ∷
+    record { text = codes "cc"; mark = Measure units.Cc } ∷
+    record { text = codes "sp"; mark = Measure units.Sp } ∷
+    record { text = codes "em"; mark = Measure units.Em } ∷
+    record { text = codes "ex"; mark = Measure units.Ex } ∷
+    record { text = codes "r"; mark = Radian } ∷
+    record { text = codes "pi"; mark = Pi } ∷
+    record { text = codes "sin"; mark = Single Sin } ∷
+    record { text = codes "cos"; mark = Single Cos } ∷
+    record { text = codes "tan"; mark = Single Tan } ∷
+    record { text = codes "sqrt"; mark = Single Sqrt } ∷
+    record { text = codes "abs"; mark = Single Abs } ∷
+    record { text = codes "sign"; mark = Single Sgn } ∷
+    record { text = codes "floor"; mark = Single Floor } ∷
+    record { text = codes "ceil"; mark = Single Ceil } ∷
+    record { text = codes "round"; mark = Single Round } ∷
+    record { text = codes "int"; mark = Single Int } ∷
+    record { text = codes "mod"; mark = Double Mod } ∷
+    record { text = codes "pow"; mark = Double Pow } ∷
+    record { text = codes "veclen"; mark = Double Veclen } ∷
+    record { text = codes "min"; mark = Several Min } ∷
+    record { text = codes "max"; mark = Several Max } ∷ []
+
+-- what a text is by a table, or just a word
+abbrev pub mark_in : List Row → List ℕ → Mark
+mark_in [] text = Word
+mark_in (row ∷ others) text = if bytes_eq text row.text then row.mark else mark_in others text
+
+-- what a run of letters is
+unfoldable pub word_mark : List ℕ → Mark
+word_mark text = mark_in rows text
+
+-- what a character is by a table of codes, or something that no expression has
+abbrev pub sign_in : List (ℕ × Mark) → ℕ → Mark
+sign_in [] c = Other
+sign_in (row ∷ others) c = if c == row.0 then row.1 else sign_in others c
+
+-- the characters `.`, `+` `-` `*` `/` `^`, `|` `&` `=` `!` `<` `>`, `?` `:` `,` and `(` `)`
+abbrev pub signs : List (ℕ × Mark)
+signs =
+    (46, Point) ∷
+    (43, Plus) ∷ (45, Minus) ∷ (42, Star) ∷ (47, Slash) ∷ (94, Caret) ∷
+    (124, Bar) ∷ (38, Ampersand) ∷ (61, Equals) ∷ (33, Bang) ∷ (60, Less) ∷ (62, Greater) ∷
+    (63, Question) ∷ (58, Colon) ∷ (44, Comma) ∷
+    (40, Left) ∷ (41, Right) ∷ []
+
+-- what a character that is no letter is
+unfoldable pub char_mark : ℕ → Mark
+char_mark c = if is_ascii_digit c then Digit (c - 48) else sign_in signs c
+
+-- what a single token is: braces count as parentheses
+abbrev pub mark_of : Sign → Mark
+mark_of (A_char c) = char_mark c
+mark_of Opens = Left
+mark_of Closes = Right
+mark_of A_space = Gap
+mark_of _ = Other
+
+-- a run of letters or another token, with the place of its first token
+pub data Lump : Type 0 where
+  Run : List ℕ → ℕ → Lump
+  Alone : Sign → ℕ → Lump
+
+-- a letter before lumps: it joins the run that stands there
+abbrev pub with_letter : ℕ → ℕ → List Lump → List Lump
+with_letter c at (Run text _ ∷ lumps) = Run (c ∷ text) at ∷ lumps
+with_letter c at lumps = Run (c ∷ []) at ∷ lumps
+
+-- a token before lumps
+abbrev pub with_sign : Sign → ℕ → List Lump → List Lump
+with_sign (A_char c) at lumps = if is_letter c then with_letter c at lumps else Alone (A_char c) at ∷ lumps
+with_sign sign at lumps = Alone sign at ∷ lumps
+
+-- tokens in runs of letters, as long as they can be, and other tokens
+abbrev pub lumps_of : List Token → List Lump
+lumps_of [] = []
+lumps_of (t ∷ ts) = with_sign t.sign t.at (lumps_of ts)
+
+-- the piece of a lump
+abbrev pub piece_of : Lump → Piece
+piece_of (Run text at) = record { mark = word_mark text; at = at }
+piece_of (Alone sign at) = record { mark = mark_of sign; at = at }
+
+-- the pieces of tokens
+abbrev pub pieces_of : List Token → List Piece
+pieces_of tokens = map piece_of (lumps_of tokens)

@@ -1,0 +1,38 @@
+//! Expressions: the value of a text in the grammar of TikZ's arithmetic, and the pairs of coordinates.
+#![tactic(auto)]
+
+mod evaluation;
+mod frames;
+mod machine;
+mod number;
+mod operators;
+mod pairs;
+mod pieces;
+mod settle;
+mod steps;
+mod values;
+
+pub use evaluation::eval;
+pub use pairs::{pair, vector};
+use tk_num::Scaled;
+
+/// The units of the font, in scaled points.
+#[derive(Clone, Copy, Debug, Default, PartialEq, Eq)]
+pub struct FontUnits {
+    pub em: Scaled,
+    pub ex: Scaled,
+}
+
+/// What an expression stands for: its number in 65536ths, and whether a unit stands anywhere in its text.
+#[derive(Clone, Copy, Debug, Default, PartialEq, Eq)]
+pub struct Value {
+    pub number: Scaled,
+    pub unit: bool,
+}
+
+/// The numbers of a coordinate: `x,y`, or an angle with the two radii.
+#[derive(Clone, Copy, Debug, PartialEq, Eq)]
+pub enum ValuePair {
+    Plane(Value, Value),
+    Polar(Scaled, Value, Value),
+}
