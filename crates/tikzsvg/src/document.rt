@@ -5,8 +5,7 @@ ghost use Rattle.std.specs.Str.{IsUtf8};
 ghost use Rattle.tk_io.specs.Shelf.{Counts};
 ghost use Rattle.tk_token.specs.Refusals.{OnFault};
 ghost use Rattle.std.specs.List.{AllByRecursion};
-ghost use Rattle.tk_svg.specs.Fitting.{Fits};
-ghost use Rattle.tk_svgwrite.specs.Plain.{IsPathItem};
+ghost use Rattle.tk_svg.specs.Fitting.{Fits, IsPath};
 ghost use Rattle.tikzsvg.specs.Run.{Draws};
 ghost use Rattle.tikzsvg.specs.Refused.{Refuses, IsDocumentOf, unread, undrawn};
 ghost use Rattle.tikzsvg.specs.declared.document.NoDocument.TheVariants.{OutOfMemory};
@@ -70,7 +69,7 @@ pub fn document_of<H: Shelf>(
 fn drawing_of<H: Shelf>(alloc: Global, shelf: &mut H, file: &str) -> Result<Drawing, NoDocument>
     ensures drawing { IfOk result (λ d. Draws file.now (H.meaning shelf.old) (H.meaning shelf.new) d) }
     ensures fits { IfOk result Fits }
-    ensures paths { IfOk result (λ d. AllByRecursion IsPathItem d.items) }
+    ensures paths { IfOk result (λ d. AllByRecursion IsPath d.items) }
     ensures refused { IfErr result (λ e. Refuses file.now (H.meaning shelf.old) (H.meaning shelf.new) e) }
     ensures counts { Counts file.now (H.meaning shelf.old) (H.meaning shelf.new) }
 {

@@ -1,7 +1,5 @@
 -- What a source stands for.
 use Rattle.std.specs.Prelude.{ℕ, List, length, Result}
-use Rattle.tk_item.specs.declared.Item.{Item}
-use Rattle.tk_item.specs.declared.Item.TheVariants.{Path, Label}
 use Rattle.tk_item.specs.declared.Drawing.{Drawing}
 use Rattle.tk_token.specs.declared.Fault.{Fault}
 use Rattle.tk_token.specs.Token.{Token}
@@ -12,8 +10,3 @@ use Rattle.tk_picture.specs.Paths.{document}
 -- the drawing of a source, or its first fault: that of its bytes, characters and braces, or else that of its tokens
 pub data IsOutcome (source : List ℕ) : Result Drawing Fault → Type 0 where
   of_tokens : {lexed : Answer (List Token)} → Lexes source lexed → IsOutcome source (lexed >>= document (length source))
-
--- an item that is a path
-abbrev pub IsPath : Item → Type 0
-IsPath (Path segs fill stroke) = Unit {0}
-IsPath (Label label) = ⊥

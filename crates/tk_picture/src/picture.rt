@@ -3,10 +3,10 @@
 ghost use Rattle.std.specs.Prelude.{◌≡◌, ◌≤◌, ◌+◌, ◌*◌, [], None, Ok, Err, length, take, IfOk, IfErr, OnOk, IfSome, IsUtf8, codes, unwrap_or};
 ghost use Rattle.std.specs.List.{AllByRecursion};
 ghost use Rattle.tk_item.specs.Frame.{IsProper};
-ghost use Rattle.tk_svg.specs.Fitting.{Fits, FitsItem, BeginsWithMove};
+ghost use Rattle.tk_svg.specs.Fitting.{Fits, FitsItem, IsPath, BeginsWithMove};
 ghost use Rattle.tk_token.specs.Refusals.{Gives, OnFault};
 ghost use Rattle.tk_item.specs.declared.Drawing.{Drawing as ADrawing};
-ghost use Rattle.tk_picture.specs.Outcome.{IsOutcome, IsPath};
+ghost use Rattle.tk_picture.specs.Outcome.{IsOutcome};
 ghost use Rattle.tk_picture.specs.Paths.{first_pen, with_path, draw, picture_end, picture_part, paths, no_frame, drawing_of, nothing_after, document};
 ghost use Rattle.tk_picture.specs.Reading.{tokens_of, Tells, drawn_of, picture_step};
 

@@ -16,7 +16,7 @@ use Rattle.tk_item.specs.declared.Drawing.{Drawing}
 use Rattle.tk_svg.specs.Scan.{◌>>=◌, Attribute, value_of, digits_of, after_digits, part_of, after_part, unsigned_from, unsigned_at, number_at, numbers_of, number_of, scaled_of, is_empty, behind_separator}
 use Rattle.tk_svg.specs.PathData.{Command, MoveTo, point, piece, pieces}
 use Rattle.tk_svg.specs.Paint.{given, paint_of, is_length, length_of, cap_of, join_of, miter_of, dashes_of, stroke_of}
-use Rattle.tk_svg.specs.Document.{IsPath, Content, ends, path, IsDocument}
+use Rattle.tk_svg.specs.Document.{IsPathElement, Content, ends, path, IsDocument}
 use Rattle.tk_svg.specs.Fitting.{BeginsWithMove, FitsStroke, FitsItem, FitsBox, Fits}
 use Rattle.tk_svg.proofs.Unique.{and_true}
 
@@ -127,7 +127,7 @@ stroke_fits a stroke e =
     let is : option_map pen s1.0 ≡ stroke = cc (s7.2) in
     pen_fits s1.0 pen stroke (λ rgb. (length_sign _ s2.0 s2.1, miter_least _ s5.0 s5.1)) is
 
-path_fits : (a : List Attribute) (item : Item) → IsPath a item → FitsItem item
+path_fits : (a : List Attribute) (item : Item) → IsPathElement a item → FitsItem item
 path_fits a item p =
     let here : FitsItem (Path p.segs p.fill p.stroke) = (begins p.segs p.segs_are.args p.segs_are.others p.segs_are.meaning, stroke_fits a p.stroke p.stroke_is) in
     subst FitsItem (sym p.is) here

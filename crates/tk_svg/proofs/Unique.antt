@@ -12,7 +12,7 @@ use Rattle.tk_item.specs.declared.Drawing.{Drawing}
 use Rattle.tk_item.specs.declared.Frame.{Frame}
 use Rattle.tk_item.specs.declared.Fill.{Fill}
 use Rattle.tk_item.specs.declared.Stroke.{Stroke}
-use Rattle.tk_svg.specs.Document.{IsPath, Content, IsSvg, IsDocument}
+use Rattle.tk_svg.specs.Document.{IsPathElement, Content, IsSvg, IsDocument}
 use Rattle.tk_svg.specs.Document as doc
 use Rattle.tk_svg.specs.Paint.{fill_of, stroke_of}
 use Rattle.tk_svg.specs.Scan.{EndsTag, IsName, Attribute, Attributes, none, one, is_name_byte, is_value_byte, after_blanks, after_separator, after_comma, first_numbers_at, numbers_at, numbers_of, scaled_of}
@@ -137,7 +137,7 @@ attributes_same {bytes = bytes} (one {name = name} {value = value} {more = more}
 
 -- ---- paths
 
-path_item_same : (a : List Attribute) (i j : Item) → IsPath a i → IsPath a j → i ≡ j
+path_item_same : (a : List Attribute) (i j : Item) → IsPathElement a i → IsPathElement a j → i ≡ j
 path_item_same a i j p q =
     let texts = some_same _ p.path q.path p.has_path q.has_path in
     let segs = path_same p.path p.segs q.segs p.segs_are (subst (λ (t : List ℕ). IsPathData t q.segs) (sym texts) q.segs_are) in
@@ -158,12 +158,12 @@ ends_same : (all r s : List ℕ) → all ≡ 60 ∷ 47 ∷ r → all ≡ 60 ∷ 
 ends_same all r s e f = cc
 
 -- the path at the front is one, and so is what is left
-path_step : (all tag tag' more more' : List ℕ) (a a' : List Attribute) (x y : Item) → all ≡ codes "<path" ++ tag → all ≡ codes "<path" ++ tag' → Attributes tag a (47 ∷ 62 ∷ more) → Attributes tag' a' (47 ∷ 62 ∷ more') → IsPath a x → IsPath a' y → (x ≡ y) × (more' ≡ more)
+path_step : (all tag tag' more more' : List ℕ) (a a' : List Attribute) (x y : Item) → all ≡ codes "<path" ++ tag → all ≡ codes "<path" ++ tag' → Attributes tag a (47 ∷ 62 ∷ more) → Attributes tag' a' (47 ∷ 62 ∷ more') → IsPathElement a x → IsPathElement a' y → (x ≡ y) × (more' ≡ more)
 path_step all tag tag' more more' a a' x y f f' g g' h h' =
     let tags : tag ≡ tag' = append_cancel_left (codes "<path") tag tag' (sym f ∙ f') in
     let both = attributes_same g (subst (λ (t : List ℕ). Attributes t a' (47 ∷ 62 ∷ more')) (sym tags) g') in
     let mores : more ≡ more' = tail_same _ 62 62 _ _ refl (sym (tail_same _ 47 47 _ _ refl (sym both.1))) in
-    (path_item_same a x y h (subst (λ (w : List Attribute). IsPath w y) (sym both.0) h'), sym mores)
+    (path_item_same a x y h (subst (λ (w : List Attribute). IsPathElement w y) (sym both.0) h'), sym mores)
 
 pub content_same : {bytes : List ℕ} {a b : List Item} {r s : List ℕ} → Content bytes a r → Content bytes b s → (a ≡ b) × (r ≡ s)
 content_same {bytes = bytes} (doc.ends {rest = r} e) (doc.ends {rest = s} f) = (refl, ends_same (after_blanks bytes) r s e f)

@@ -14,7 +14,7 @@ use Rattle.tk_svg.specs.Paint.{paint_names, fill_of, stroke_of}
 -- ---- paths
 
 -- these are the attributes of a path for the item (SVG 1.1, section 8.2, `path`)
-pub record IsPath (attributes : List Attribute) (item : Item) : Type 0 where
+pub record IsPathElement (attributes : List Attribute) (item : Item) : Type 0 where
   pub path : List ℕ
   pub segs : List Seg
   pub fill : Option Fill
@@ -30,7 +30,7 @@ pub record IsPath (attributes : List Attribute) (item : Item) : Type 0 where
 -- the elements up to an end tag, which are paths with blanks around them, and what stands behind its `</`
 pub data Content : List ℕ → List Item → List ℕ → Type 0 where
   ends : {bytes rest : List ℕ} → after_blanks bytes ≡ 60 ∷ 47 ∷ rest → Content bytes [] rest
-  path : {bytes tag more rest : List ℕ} {attributes : List Attribute} {item : Item} {items : List Item} → after_blanks bytes ≡ codes "<path" ++ tag → Attributes tag attributes (47 ∷ 62 ∷ more) → IsPath attributes item → Content more items rest → Content bytes (item ∷ items) rest
+  path : {bytes tag more rest : List ℕ} {attributes : List Attribute} {item : Item} {items : List Item} → after_blanks bytes ≡ codes "<path" ++ tag → Attributes tag attributes (47 ∷ 62 ∷ more) → IsPathElement attributes item → Content more items rest → Content bytes (item ∷ items) rest
 
 -- ---- the outermost element
 

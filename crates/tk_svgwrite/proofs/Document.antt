@@ -18,12 +18,12 @@ use Rattle.tk_item.specs.declared.Item.TheVariants.{Path, Label}
 use Rattle.tk_item.specs.declared.Drawing.{Drawing}
 use Rattle.tk_svg.specs.Scan.{is_xml_char, is_blank, is_name_byte, is_value_byte, after_blanks, Attribute, attribute, Attributes, none, one, EndsTag, IsName, are_among, are_distinct}
 use Rattle.tk_svg.specs.Paint.{paint_names}
-use Rattle.tk_svg.specs.Document.{IsPath, Content, IsSvg, IsDocument, IsFamily, is_family_char, size_of, points_of, declaration}
+use Rattle.tk_svg.specs.Document.{IsPathElement, Content, IsSvg, IsDocument, IsFamily, is_family_char, size_of, points_of, declaration}
 use Rattle.tk_svg.specs.Document as doc
-use Rattle.tk_svg.specs.Fitting.{Fits, FitsItem, FitsBox}
+use Rattle.tk_svg.specs.Fitting.{Fits, FitsItem, IsPath, FitsBox}
 use Rattle.tk_svg.proofs.Numbers.{number_back}
 use Rattle.tk_svg.proofs.Unique.{and_true}
-use Rattle.tk_svgwrite.specs.Plain.{attribute_text, attributes_text, Setting, differing, data_text, fill_settings, stroke_settings, path_attributes, item_text, IsPathItem, width_of, height_of, points_text, box_text, svg_attributes, svg_text, document_text}
+use Rattle.tk_svgwrite.specs.Plain.{attribute_text, attributes_text, Setting, differing, data_text, fill_settings, stroke_settings, path_attributes, item_text, width_of, height_of, points_text, box_text, svg_attributes, svg_text, document_text}
 use Rattle.tk_svgwrite.specs.Ranges.{FillInRange, StrokeInRange, ItemInRange}
 use Rattle.tk_svgwrite.proofs.Numbers.{is_plain, all_both, text_plain, numbers_plain, list_back}
 use Rattle.tk_svgwrite.proofs.PathData.{unsigned_abs-neg, neg-neg, scaled_fits, data_means, data_plain}
@@ -133,7 +133,7 @@ settings_named None (Some s) = named_by _ refl refl refl
 settings_named (Some f) None = named_by _ refl refl refl
 settings_named (Some f) (Some s) = named_by _ refl refl refl
 
-path_is : (segs : List Seg) (fill : Option Fill) (stroke : Option Stroke) → ItemInRange (Path segs fill stroke) → FitsItem (Path segs fill stroke) → IsPath (path_attributes segs fill stroke) (Path segs fill stroke)
+path_is : (segs : List Seg) (fill : Option Fill) (stroke : Option Stroke) → ItemInRange (Path segs fill stroke) → FitsItem (Path segs fill stroke) → IsPathElement (path_attributes segs fill stroke) (Path segs fill stroke)
 path_is segs fill stroke h f =
     let named = settings_named fill stroke in
     record {
@@ -155,7 +155,7 @@ path_is segs fill stroke h f =
 tag_parts : (attributes items close : List ℕ) → ((attributes ++ codes "/>\n") ++ items) ++ close ≡ attributes ++ 47 ∷ 62 ∷ 10 ∷ (items ++ close)
 tag_parts attributes items close = simp append_assoc
 
-pub items_mean : (items : List Item) → AllByRecursion FitsItem items → AllByRecursion ItemInRange items → AllByRecursion IsPathItem items → Content (10 ∷ (flat_map item_text items ++ codes "</svg>\n")) items (codes "svg>\n")
+pub items_mean : (items : List Item) → AllByRecursion FitsItem items → AllByRecursion ItemInRange items → AllByRecursion IsPath items → Content (10 ∷ (flat_map item_text items ++ codes "</svg>\n")) items (codes "svg>\n")
 unfolding item_text
 items_mean [] f h p = doc.ends refl
 items_mean (Path segs fill stroke ∷ items) f h p =
@@ -278,7 +278,7 @@ lines_are_ascii bytes h = IsAscii-from_all bytes (λ k e lt. line_is_ascii _ (Al
 document_parts : (attributes items : List ℕ) → (((declaration ++ codes "\n") ++ (codes "<svg" ++ attributes ++ codes ">\n")) ++ items) ++ codes "</svg>\n" ≡ declaration ++ 10 ∷ 60 ∷ 115 ∷ 118 ∷ 103 ∷ (attributes ++ 62 ∷ 10 ∷ (items ++ codes "</svg>\n"))
 document_parts attributes items = simp append_assoc
 
-pub document_means : (d : Drawing) → Fits d → IsScaled d.size → AllByRecursion ItemInRange d.items → AllByRecursion IsPathItem d.items → IsDocument (document_text d) d
+pub document_means : (d : Drawing) → Fits d → IsScaled d.size → AllByRecursion ItemInRange d.items → AllByRecursion IsPath d.items → IsDocument (document_text d) d
 unfolding document_text svg_text
 document_means d f s h p =
     let lines = document_line d f s h in

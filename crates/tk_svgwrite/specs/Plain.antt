@@ -126,11 +126,6 @@ stroke_settings (Some stroke) =
 abbrev pub path_attributes : List Seg → Option Fill → Option Stroke → List Attribute
 path_attributes segs fill stroke = (codes "d", data_text segs) ∷ differing (fill_settings fill ++ stroke_settings stroke)
 
--- an item that is written: a path
-abbrev pub IsPathItem : Item → Type 0
-IsPathItem (Path segs fill stroke) = Unit {0}
-IsPathItem (Label label) = ⊥
-
 -- the line of an item; labels are not written
 unfoldable pub item_text : Item → List ℕ
 item_text (Path segs fill stroke) = codes "<path" ++ attributes_text (path_attributes segs fill stroke) ++ codes "/>\n"

@@ -9,8 +9,8 @@
 ghost use Rattle.std.specs.Prelude.{◌≡◌, IfOk};
 ghost use Rattle.std.specs.List.{AllByRecursion};
 ghost use Rattle.tk_svg.specs.Document.{IsDocument};
-ghost use Rattle.tk_svg.specs.Fitting.{Fits};
-ghost use Rattle.tk_svgwrite.specs.Plain.{document_text, IsPathItem};
+ghost use Rattle.tk_svg.specs.Fitting.{Fits, IsPath};
+ghost use Rattle.tk_svgwrite.specs.Plain.{document_text};
 
 mod attributes;
 mod elements;
@@ -26,7 +26,7 @@ use tk_item::Drawing;
 /// this drawing and no other. The only error is want of memory.
 pub fn write_svg(alloc: Global, drawing: &Drawing) -> Result<Vec<u8>, AllocError>
     requires fits { Fits drawing.now }
-    requires paths { AllByRecursion IsPathItem drawing.now.items }
+    requires paths { AllByRecursion IsPath drawing.now.items }
     ensures text { IfOk result (λ v. v.items ≡ document_text drawing.now) }
     ensures means { IfOk result (λ v. IsDocument v.items drawing.now) }
 {

@@ -2,8 +2,7 @@ use Rattle.std.proofs.Common.{◌≡◌, length}
 use Rattle.std.specs.List.{AllByRecursion}
 use Rattle.std.specs.Prelude.{IfSome}
 use Rattle.tk_item.specs.Frame.{IsProper}
-use Rattle.tk_svg.specs.Fitting.{FitsItem}
-use Rattle.tk_picture.specs.Outcome.{IsPath}
+use Rattle.tk_svg.specs.Fitting.{FitsItem, IsPath}
 use Rattle.tk_picture.specs.Paths.{paths}
 use Rattle.tk_picture.specs.Reading.{tokens_of, drawn_of}
 use Rattle.tk_picture.proofs.reader.Reader.paths.Given as goal
