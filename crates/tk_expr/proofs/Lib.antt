@@ -1,7 +1,8 @@
-pub mod Ends
-pub mod Fronts
+pub mod LastToken
 pub mod Letters
-pub mod Places
 pub mod Powers
+pub mod Prefixes
 pub mod Roots
+pub mod Shifts
 pub mod Stacks
+pub mod Places

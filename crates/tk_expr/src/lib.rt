@@ -10,6 +10,8 @@ mod pairs;
 mod pieces;
 mod settle;
 mod steps;
+#[cfg(test)]
+mod tests;
 mod values;
 
 pub use evaluation::eval;

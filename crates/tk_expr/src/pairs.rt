@@ -147,7 +147,7 @@ fn are_spaces(list: &[Tok]) -> bool
 }
 
 /// The tokens after the gaps in front.
-#[tactic(auto, using(crate::proofs::Places::space_passed))]
+#[tactic(auto, using(crate::proofs::Shifts::space_passed))]
 fn after_spaces(list: &[Tok]) -> &[Tok]
     ensures { (names : List (List ℕ)) → tokens_of names result.now ≡ spec.after_spaces (tokens_of names list.now) }
 {

@@ -1,4 +1,4 @@
-use Rattle.tk_expr.proofs.Ends.{end_is}
+use Rattle.tk_expr.proofs.LastToken.{end_is}
 use Rattle.tk_expr.proofs.evaluation.end_of.Goals as goal
 
 pub returns-in-Some : goal.returns-in-Some

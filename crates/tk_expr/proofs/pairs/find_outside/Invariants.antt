@@ -1,7 +1,7 @@
 use Rattle.std.proofs.Common.{◌≡◌, ℕ, ◌+◌, ◌-◌, ◌≤◌, List, length}
 use Rattle.tk_expr.specs.Pairs as spec
 use Rattle.tk_expr.specs.Runs.{test_of, tokens_of}
-use Rattle.tk_expr.proofs.Places.{shifted}
+use Rattle.tk_expr.proofs.Shifts.{shifted}
 use Rattle.tk_expr.proofs.pairs.find_outside.Given as goal
 
 abbrev pub invariant-loop-first : goal.invariant-loop-first

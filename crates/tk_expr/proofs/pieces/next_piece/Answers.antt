@@ -1,7 +1,7 @@
 use Rattle.std.proofs.Common.{rules, ◌≡◌, ◌∷◌, List, sym}
 use Rattle.tk_token.specs.declared.Tok.{Tok}
 use Rattle.tk_expr.specs.Runs.{is_letter_tok}
-use Rattle.tk_expr.proofs.Fronts.{front_passes}
+use Rattle.tk_expr.proofs.Prefixes.{front_passes}
 use Rattle.tk_expr.proofs.Letters.{letters_in_front}
 use Rattle.tk_expr.proofs.pieces.next_piece.Goals as goal
 
