@@ -11,7 +11,8 @@ use Rattle.std.proofs.lemmas.List.Folds.{list_all-append}
 use Rattle.tk_num.specs.Text.{text_of, part_text, fewest_digits, nearest_digits}
 use Rattle.tk_svg.specs.Scan.{is_blank, is_value_byte, after_blanks, after_separator, after_comma, number_at, numbers_at, first_numbers_at, number_of, numbers_of}
 use Rattle.tk_svg.specs.Fitting.{FitsBox}
-use Rattle.tk_svg.proofs.Numbers.{digit_is, fixed_all, EndsNumber, number_back}
+use Rattle.tk_svg.proofs.Numbers.{digit_is, EndsNumber, number_back}
+use Rattle.tk_num.proofs.Fixed.{fixed_all}
 use Rattle.tk_svgwrite.specs.Plain.{numbers_text}
 
 -- ---- what a text is made of
