@@ -9,6 +9,7 @@ ghost use Rattle.tk_expand.specs.Expand.{left, replaced, front, full};
 
 use crate::{Input, Units};
 use std::alloc::{AllocError, Global};
+use std::slice;
 use tk_store::{Body, Macro, Store};
 use tk_token::{Kind, Refusal, Tok};
 
@@ -40,6 +41,7 @@ impl Input {
     }
 
     /// Pays for a call whose word was taken, and puts its text in its place.
+    #[tactic(auto, unfolding(crate::specs::Expand::replaced))]
     fn replace(&mut self, called: &Macro, at: u32, units: &mut Units) -> Result<(), Refusal>
         ensures gives { Gives (λ _. left units.new.used self.new.rest) result (replaced units.old.budget units.old.used called.now at self.old.rest) }
         ensures end { OnOk result (self.new.end ≡ self.old.end) }
@@ -52,6 +54,7 @@ impl Input {
     }
 
     /// The text of a call whose word was taken. Its arguments are taken.
+    #[tactic(auto, using(crate::proofs::Calls::plain_text), unfolding(crate::specs::Arguments::text_of))]
     fn text(&mut self, called: &Macro, at: u32) -> Result<Body, Refusal>
         ensures gives { Gives (λ text. cut text self.new.rest) result (text_of called.now at self.old.rest) }
         ensures end { OnOk result (self.new.end ≡ self.old.end) }
@@ -87,23 +90,23 @@ fn with_arguments(
 {
     let mut text = Vec::new(alloc);
     for tok in body {
-        match argument_at(arguments, tok.kind) {
-            Some(argument) => text.extend_from_slice(argument)?,
-            None => text.push(*tok)?,
-        }
+        text.extend_from_slice(meant_by(arguments, tok))?;
     }
     Ok(text)
 }
 
-/// The argument whose place that is.
-fn argument_at(arguments: &[Vec<Tok>], place: Kind) -> Option<&[Tok]>
-    ensures { (t : Tok) → unwrap_or (option_map (λ argument. argument.now) result) (t ∷ []) ≡ meant_by (map (λ argument. argument.items) arguments.now) place t }
+/// What a token of a body stands for.
+fn meant_by<'a>(arguments: &'a [Vec<Tok>], tok: &'a Tok) -> &'a [Tok]
+    ensures { result.now ≡ meant_by (map (λ argument. argument.items) arguments.now) tok.now.kind tok.now }
 {
-    let Kind::Arg(n) = place else {
-        return None;
+    let itself = slice::from_ref(tok);
+    let Kind::Arg(n) = tok.kind else {
+        return itself;
     };
-    let argument = arguments.get((n as usize).saturating_sub(1))?;
-    Some(argument.as_slice())
+    match arguments.get((n as usize).saturating_sub(1)) {
+        Some(argument) => argument.as_slice(),
+        None => itself,
+    }
 }
 
 /// The list with no macro call left.

@@ -1,11 +1,11 @@
 //! Token lists that are being read, from the front on.
 
-ghost use Rattle.std.specs.Prelude.{◌≡◌, ◌+◌, ◌≤◌, if◌then◌else◌, [], ◌++◌, length, Some, None, IfOk, IfNone, OnOk};
-ghost use Rattle.std.specs.Bool.{OnFalse};
+ghost use Rattle.std.specs.Prelude.{◌≡◌, ◌+◌, ◌^◌, ◌<◌, ◌≤◌, ◌==◌, ◌&&◌, if◌then◌else◌, [], ◌++◌, length, Some, None, IfOk, IfNone, OnOk};
+ghost use Rattle.std.specs.Bool.{OnFalse, OnTrue};
 ghost use Rattle.std.specs.Option.{option_to_list, option_map};
 ghost use Rattle.tk_token.specs.declared.Code.TheVariants.{MacroArg};
 ghost use Rattle.tk_token.specs.Answers.{or_fault};
-ghost use Rattle.tk_token.specs.Groups.{cut, before_in, before_sign};
+ghost use Rattle.tk_token.specs.Groups.{cut, depth_after, is_close, before_in, before_sign};
 ghost use Rattle.tk_token.specs.Refusals.{Gives};
 ghost use Rattle.tk_expand.specs.Arguments.{argument_of, after_spaces};
 ghost use Rattle.tk_expand.specs.Stops.{wanted_by};
@@ -24,14 +24,16 @@ enum Stop {
 }
 
 impl Stop {
-    fn is(self, kind: Kind) -> bool
-        ensures { result ≡ wanted_by self kind }
+    /// Whether it is that token, where so many braces are open.
+    fn is(self, depth: usize, kind: Kind) -> bool
+        ensures { result ≡ (depth == 0 && wanted_by self kind) }
     {
-        match (self, kind) {
+        let wanted = match (self, kind) {
             (Stop::Char(stop), Kind::Char(character)) => character == stop,
             (Stop::Close, Kind::Close) => true,
             _ => false,
-        }
+        };
+        depth == 0 && wanted
     }
 }
 
@@ -59,6 +61,7 @@ impl Model for Input {
 
 impl Input {
     /// The whole list, with the place at which it runs out.
+    #[tactic(auto, using(crate::proofs::Stacks::first_list))]
     pub fn new(alloc: Global, list: Body, end: u32) -> Result<Input, AllocError>
         ensures { IfOk result (λ input. input ≡ record { rest = list; end = end }) }
     {
@@ -89,15 +92,20 @@ impl Input {
         ensures none { IfNone result (self.old.rest ≡ []) }
         ensures end { self.new.end ≡ self.old.end }
     {
-        let last = self.stack.len().checked_sub(1)?;
-        let tok = self.stack[last].take();
-        if self.stack[last].is_empty() {
-            self.stack.pop();
+        if self.stack.is_empty() {
+            return None;
+        }
+        let last = self.stack.len() - 1;
+        let list = &mut self.stack[last];
+        let tok = list.take();
+        if list.is_empty() {
+            self.stack.truncate(last);
         }
         Some(tok)
     }
 
     /// Puts a list in front.
+    #[tactic(auto, using(crate::proofs::Stacks::stacked_push))]
     pub fn push(&mut self, list: Body) -> Result<(), AllocError>
         ensures { OnOk result (self.new ≡ record self.old { rest = list ++ self.old.rest }) }
     {
@@ -134,7 +142,9 @@ impl Input {
             code: Code::MacroArg,
             at,
         };
-        let first = self.after_spaces().ok_or(missing)?;
+        let Some(first) = self.after_spaces() else {
+            return Err(missing.into());
+        };
         match first.kind {
             Kind::Open => {
                 let (contents, closed) = self.before(Stop::Close)?;
@@ -154,11 +164,12 @@ impl Input {
         ensures rest { after_spaces self.old.rest ≡ option_to_list result ++ self.new.rest }
         ensures none { IfNone result (self.new.rest ≡ []) }
         ensures end { self.new.end ≡ self.old.end }
+        ensures shorter { length (option_to_list result ++ self.new.rest) ≤ length self.old.rest }
     {
         while let Some(tok) = self.raw() {
-            if tok.kind != Kind::Space {
+            let Kind::Space = tok.kind else {
                 return Some(tok);
-            }
+            };
         }
         None
     }
@@ -169,21 +180,43 @@ impl Input {
         ensures gives { IfOk result (λ taken. before_in (wanted_by stop) 0 self.old.rest ≡ (if taken.1 then Some (cut taken.0.items self.new.rest) else None)) }
         ensures kept { IfOk result (λ taken. OnFalse taken.1 (taken.0.items ++ self.new.rest ≡ self.old.rest)) }
         ensures end { OnOk result (self.new.end ≡ self.old.end) }
+        ensures shorter { IfOk result (λ taken. OnTrue taken.1 (length taken.0.items + length self.new.rest < length self.old.rest)) }
     {
         let mut front = Vec::new(self.alloc);
         let mut depth: usize = 0;
         while let Some(tok) = self.raw() {
-            if depth == 0 && stop.is(tok.kind) {
+            if stop.is(depth, tok.kind) {
                 return Ok((front, true));
             }
             front.push(tok)?;
-            match tok.kind {
-                Kind::Open => depth += 1,
-                Kind::Close if depth == 0 => return Ok((front, false)),
-                Kind::Close => depth -= 1,
-                _ => {}
+            if closes_nothing(depth, tok.kind) {
+                return Ok((front, false));
             }
+            depth = depth_after(depth, tok.kind);
         }
         Ok((front, false))
+    }
+}
+
+/// Whether a token is a `}` too many, where so many braces are open.
+fn closes_nothing(depth: usize, kind: Kind) -> bool
+    ensures { result ≡ (depth == 0 && is_close kind) }
+{
+    match kind {
+        Kind::Close => depth == 0,
+        _ => false,
+    }
+}
+
+/// How many braces are open after a token.
+fn depth_after(depth: usize, kind: Kind) -> usize
+    requires { depth + 1 < 2 ^ 64 }
+    ensures depth { result ≡ depth_after depth kind }
+    ensures within { result ≤ depth + 1 }
+{
+    match kind {
+        Kind::Open => depth + 1,
+        Kind::Close => depth.saturating_sub(1),
+        _ => depth,
     }
 }

@@ -1,5 +1,5 @@
 -- Braces in lists of tokens.
-use Rattle.std.specs.Prelude.{ℕ, zero, suc, ◌-◌, Bool, true, false, ◌==◌, if◌then◌else◌, List, [], ◌∷◌, Option, Some, None, option_map}
+use Rattle.std.specs.Prelude.{ℕ, suc, ◌-◌, Bool, true, false, ◌&&◌, ◌==◌, if◌then◌else◌, List, [], ◌∷◌, Option, Some, None, option_map}
 use Rattle.tk_token.specs.declared.Kind.{Kind}
 use Rattle.tk_token.specs.declared.Kind.TheVariants.{Char, Open, Close}
 use Rattle.tk_token.specs.declared.Tok.{Tok}
@@ -37,9 +37,9 @@ depth_after depth _ = depth
 -- There are none where the list ends before it, or a `}` comes before it that closes none of these tokens.
 unfoldable pub before_in : (Kind → Bool) → ℕ → List Tok → Option Cut
 before_in wanted depth [] = None
-before_in wanted zero (t ∷ ts) =
-    if wanted t.kind then Some (cut [] ts) else (if is_close t.kind then None else with_first t (before_in wanted (depth_after zero t.kind) ts))
-before_in wanted (suc depth) (t ∷ ts) = with_first t (before_in wanted (depth_after (suc depth) t.kind) ts)
+before_in wanted depth (t ∷ ts) =
+    if depth == 0 && wanted t.kind then Some (cut [] ts)
+    else (if depth == 0 && is_close t.kind then None else with_first t (before_in wanted (depth_after depth t.kind) ts))
 
 -- the tokens before that character, at its first place outside braces, and those behind it
 abbrev pub before_sign : ℕ → List Tok → Option Cut

@@ -1,0 +1,71 @@
+-- The arguments of a call, one after the other.
+use Rattle.std.proofs.Common.{◌≡◌, ℕ, zero, suc, List, [], ◌∷◌, ◌++◌, map, Ok, Err, refl, sym, ap, subst, ◌∙◌, append_assoc}
+use Rattle.std.proofs.lemmas.List.{append-nil}
+use Rattle.tk_token.specs.declared.Kind.{Kind}
+use Rattle.tk_token.specs.declared.Kind.TheVariants.{Char, Word, Symbol, Open, Close, Param, Arg, Space}
+use Rattle.tk_token.specs.declared.Tok.{Tok}
+use Rattle.tk_token.specs.declared.Refusal.{Refusal}
+use Rattle.tk_token.specs.declared.Code.TheVariants.{MacroArg}
+use Rattle.tk_token.specs.Answers.{Answer, ◌>>=◌, or_fault}
+use Rattle.tk_token.specs.Groups.{Cut, cut}
+use Rattle.tk_token.specs.Refusals.{Fails}
+use Rattle.tk_token.proofs.Answering.{fails_then, fails_as, then_is}
+use Rattle.tk_store.specs.declared.Macro.{Macro}
+use Rattle.tk_expand.specs.Arguments.{argument_of, Arguments, given, arguments_of, meant_by, with_arguments, text_of}
+
+-- arguments that were taken stand before those of the answer
+abbrev pub with_taken : List (List Tok) → Answer Arguments → Answer Arguments
+with_taken texts answer = answer >>= λ a. Ok (given (texts ++ a.texts) a.rest)
+
+-- none was taken yet
+pub none_taken : (answer : Answer Arguments) → answer ≡ with_taken [] answer
+none_taken (Ok a) = refl
+none_taken (Err e) = refl
+
+-- The arguments so far: the answer is that of so many that are left, with those that were taken before it.
+module _ (at n : ℕ) (texts : List (List Tok)) (rest : List Tok) (answer : Answer Arguments) (told : answer ≡ with_taken texts (arguments_of at n rest)) where
+  -- none is left
+  pub all_taken : n ≡ 0 → answer ≡ Ok (given texts rest)
+  unfolding arguments_of
+  all_taken none = told ∙ ap (λ (n : ℕ). with_taken texts (arguments_of at n rest)) none ∙ ap (λ (ts : List (List Tok)). (let a : Answer Arguments = Ok (given ts rest) in a)) (append-nil texts)
+
+  module _ (more : ℕ) (is : n ≡ suc more) where
+    -- the next one is missing
+    pub one_missing : (e : Refusal) → Fails e (or_fault (argument_of rest) MacroArg at) → Fails e answer
+    unfolding arguments_of
+    one_missing e h =
+        fails_as e answer _ (told ∙ ap (λ (n : ℕ). with_taken texts (arguments_of at n rest)) is) (fails_then e (arguments_of at (suc more) rest) _ (fails_then e (or_fault (argument_of rest) MacroArg at) _ h))
+
+    -- the next one is taken
+    pub one_taken : (c : Cut) (texts' : List (List Tok)) → or_fault (argument_of rest) MacroArg at ≡ Ok c → texts' ≡ texts ++ c.front ∷ [] → answer ≡ with_taken texts' (arguments_of at more c.rest)
+    unfolding arguments_of
+    one_taken c texts' known pushed =
+        told ∙ ap (λ (n : ℕ). with_taken texts (arguments_of at n rest)) is
+        ∙ ap (λ (first : Answer Cut). with_taken texts (first >>= λ first. arguments_of at more first.rest >>= λ more. Ok (given (first.front ∷ more.texts) more.rest))) known
+        ∙ joined (arguments_of at more c.rest) ∙ ap (λ (ts : List (List Tok)). with_taken ts (arguments_of at more c.rest)) (sym pushed)
+      where
+        joined : (r : Answer Arguments) → with_taken texts (r >>= λ more. Ok (given (c.front ∷ more.texts) more.rest)) ≡ with_taken (texts ++ c.front ∷ []) r
+        joined (Ok a) = ap (λ (ts : List (List Tok)). (let r : Answer Arguments = Ok (given ts a.rest) in r)) (sym (append_assoc texts (c.front ∷ []) a.texts))
+        joined (Err e) = refl
+
+-- without arguments each token of a body stands for itself
+itself : (k : Kind) (t : Tok) → meant_by [] k t ≡ t ∷ []
+itself (Arg n) t = refl
+itself (Char c) t = refl
+itself (Word w) t = refl
+itself (Symbol c) t = refl
+itself Open t = refl
+itself Close t = refl
+itself Param t = refl
+itself Space t = refl
+
+without_arguments : (body : List Tok) → with_arguments [] body ≡ body
+without_arguments [] = refl
+without_arguments (t ∷ ts) = ap (λ (us : List Tok). us ++ with_arguments [] ts) (itself t.kind t) ∙ ap (λ (us : List Tok). t ∷ us) (without_arguments ts)
+
+-- a call without arguments stands for the body
+pub plain_text : (called : Macro) (at : ℕ) (ts : List Tok) → called.args ≡ 0 → text_of called at ts ≡ Ok (cut called.body ts)
+unfolding text_of arguments_of
+plain_text called at ts none =
+    ap (λ (n : ℕ). arguments_of at n ts >>= λ arguments. Ok (cut (with_arguments arguments.texts called.body) arguments.rest)) none
+    ∙ ap (λ (body : List Tok). (let c : Answer Cut = Ok (cut body ts) in c)) (without_arguments called.body)
