@@ -21,11 +21,11 @@ abbrev pub argument_at : ℕ → Option ℕ → ℕ → Answer Tok
 argument_at args (Some n) at = if nat_le 1 n && nat_le n args then Ok (record { kind = Arg n; at = at }) else misfit at
 argument_at args None at = misfit at
 
--- what a `#` stands for, with a token of that kind behind it, where there are so many arguments
-abbrev pub meant_by : ℕ → Kind → Tok → Answer Tok
-meant_by args Param hash = Ok hash
-meant_by args (Char c) hash = argument_at args (digit_of (Char c)) hash.at
-meant_by args _ hash = misfit hash.at
+-- what a `#` at a place stands for, with a token of that kind behind it, where there are so many arguments
+abbrev pub meant_by : ℕ → Kind → ℕ → Answer Tok
+meant_by args Param at = Ok (record { kind = Param; at = at })
+meant_by args (Char c) at = argument_at args (digit_of (Char c)) at
+meant_by args _ at = misfit at
 
 -- the body of a macro with so many arguments, as it is written: `#1` is an argument's place, and `##` is `#`
 unfoldable pub body_of : ℕ → List Tok → Answer (List Tok)
@@ -36,7 +36,7 @@ body_of args (t ∷ []) = do
 body_of args (t ∷ u ∷ ts) =
   if is_param t.kind
     then (do
-      first ← meant_by args u.kind t
+      first ← meant_by args u.kind t.at
       more ← body_of args ts
       Ok (first ∷ more))
     else (do

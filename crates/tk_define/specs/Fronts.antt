@@ -9,7 +9,7 @@ use Rattle.tk_define.specs.Bodies.{itself, meant_by}
 abbrev pub hash_of : ℕ → Tok → List Tok → Answer (Read Tok)
 hash_of args t [] = misfit t.at
 hash_of args t (u ∷ ts) = do
-  first ← meant_by args u.kind t
+  first ← meant_by args u.kind t.at
   Ok (read first ts)
 
 -- what a token in front stands for, and what stands behind it

@@ -18,7 +18,7 @@ parameters end count zero ts = do
 parameters end count (suc more) ts = do
   next ← next_token end ts
   if is_param next.value.kind
-    then (behind (is_digit (1 + count)) end next.rest >>= λ rest. parameters end (suc count) more rest)
+    then (behind (is_digit (count + 1)) end next.rest >>= λ rest. parameters end (suc count) more rest)
     else (behind is_open end ts >>= λ rest. Ok (read count rest))
 
 -- ---- the parts of `\newcommand`, between which Spaces may stand

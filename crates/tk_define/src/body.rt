@@ -1,10 +1,10 @@
 //! The bodies of macros.
 
-ghost use Rattle.std.specs.Prelude.{◌≡◌, ◌+◌, ◌<◌, ◌≤◌, ◌^◌, length, IfOk, OnOk};
+ghost use Rattle.std.specs.Prelude.{◌≡◌, ◌==◌, ◌&&◌, ◌+◌, ◌<◌, ◌≤◌, ◌^◌, length, IfOk, OnOk};
 ghost use Rattle.std.specs.List.{All};
 ghost use Rattle.tk_token.specs.declared.Code.TheVariants.{MacroSyntax};
 ghost use Rattle.tk_token.specs.Answers.{or_fault};
-ghost use Rattle.tk_token.specs.Groups.{cut, depth_after, group_of};
+ghost use Rattle.tk_token.specs.Groups.{cut, depth_after, is_close, group_of};
 ghost use Rattle.tk_token.specs.Refusals.{Gives};
 ghost use Rattle.tk_define.specs.Parts.{read};
 ghost use Rattle.tk_define.specs.Bodies.{itself, meant_by, body_of, body_in, IsArgOf};
@@ -37,7 +37,7 @@ fn contents(alloc: Global, input: &mut Input) -> Result<Vec<Tok>, Refusal>
     let mut contents = Vec::new(alloc);
     let mut depth: usize = 0;
     while let Some(tok) = input.raw() {
-        if depth == 0 && tok.kind == Kind::Close {
+        if closes(depth, tok.kind) {
             return Ok(contents);
         }
         contents.push(tok)?;
@@ -72,34 +72,45 @@ fn front(args: u8, first: Tok, tail: &[Tok]) -> Result<(Tok, &[Tok]), Refusal>
             let Some((next, behind)) = tail.split_first() else {
                 return Err(misfit(first.at).into());
             };
-            Ok((meant_by(args, next.kind, first)?, behind))
+            Ok((meant_by(args, next.kind, first.at)?, behind))
         }
         Kind::Arg(_) => Err(misfit(first.at).into()),
         _ => Ok((first, tail)),
     }
 }
 
-/// What a `#` stands for, with a token of that kind behind it.
-fn meant_by(args: u8, kind: Kind, hash: Tok) -> Result<Tok, Refusal>
-    ensures gives { Gives (λ tok. tok) result (meant_by args kind hash) }
+/// What a `#` at a place stands for, with a token of that kind behind it.
+fn meant_by(args: u8, kind: Kind, at: u32) -> Result<Tok, Refusal>
+    ensures gives { Gives (λ tok. tok) result (meant_by args kind at) }
     ensures places { IfOk result (λ tok. IsArgOf args tok.kind) }
 {
     if let Kind::Param = kind {
-        return Ok(hash);
+        return Ok(Tok { kind, at });
     }
     match digit_of(kind) {
         Some(n) if 1 <= n && n <= args => Ok(Tok {
             kind: Kind::Arg(n),
-            at: hash.at,
+            at,
         }),
-        _ => Err(misfit(hash.at).into()),
+        _ => Err(misfit(at).into()),
+    }
+}
+
+/// Whether a token is the `}` of the group, where so many braces are open in it.
+fn closes(depth: usize, kind: Kind) -> bool
+    ensures { result ≡ (depth == 0 && is_close kind) }
+{
+    match kind {
+        Kind::Close => depth == 0,
+        _ => false,
     }
 }
 
 /// How many braces are open after a token.
 fn depth_after(depth: usize, kind: Kind) -> usize
     requires { depth + 1 < 2 ^ 64 }
-    ensures { result ≡ depth_after depth kind }
+    ensures depth { result ≡ depth_after depth kind }
+    ensures within { result ≤ depth + 1 }
 {
     match kind {
         Kind::Open => depth + 1,

@@ -45,6 +45,7 @@ pub(crate) fn misfit(at: u32) -> Fault
 }
 
 /// Takes the next token.
+#[tactic(auto, unfolding(crate::specs::Parts::next_token))]
 pub(crate) fn next_token(input: &mut Input) -> Result<Tok, Refusal>
     ensures gives { Gives (λ tok. read tok input.new.rest) result (next_token input.old.end input.old.rest) }
     ensures end { OnOk result (input.new.end ≡ input.old.end) }
@@ -58,6 +59,7 @@ pub(crate) fn next_token(input: &mut Input) -> Result<Tok, Refusal>
 }
 
 /// Takes the next token that isn't a Space, with the Spaces before it.
+#[tactic(auto, unfolding(crate::specs::Parts::next_token))]
 pub(crate) fn next_part(input: &mut Input) -> Result<Tok, Refusal>
     ensures gives { Gives (λ tok. read tok input.new.rest) result (next_token input.old.end (after_spaces input.old.rest)) }
     ensures end { OnOk result (input.new.end ≡ input.old.end) }
@@ -73,6 +75,7 @@ pub(crate) fn next_part(input: &mut Input) -> Result<Tok, Refusal>
 }
 
 /// Takes the next token, which has to be that one.
+#[tactic(auto, unfolding(crate::specs::Parts::behind))]
 pub(crate) fn expect(input: &mut Input, wanted: Wanted) -> Result<(), Refusal>
     ensures gives { Gives (λ _. input.new.rest) result (behind (wanted_by wanted) input.old.end input.old.rest) }
     ensures end { OnOk result (input.new.end ≡ input.old.end) }
@@ -86,6 +89,7 @@ pub(crate) fn expect(input: &mut Input, wanted: Wanted) -> Result<(), Refusal>
 }
 
 /// Takes the next token that isn't a Space, which has to be that one, with the Spaces before it.
+#[tactic(auto, unfolding(crate::specs::Parts::behind))]
 pub(crate) fn expect_part(input: &mut Input, wanted: Wanted) -> Result<(), Refusal>
     ensures gives { Gives (λ _. input.new.rest) result (behind (wanted_by wanted) input.old.end (after_spaces input.old.rest)) }
     ensures end { OnOk result (input.new.end ≡ input.old.end) }
@@ -99,6 +103,7 @@ pub(crate) fn expect_part(input: &mut Input, wanted: Wanted) -> Result<(), Refus
 }
 
 /// Takes the next token, which has to be a control word.
+#[tactic(auto, unfolding(crate::specs::Parts::said_by))]
 pub(crate) fn word(input: &mut Input) -> Result<u32, Refusal>
     ensures gives { Gives (λ word. read word input.new.rest) result (said_by word_of input.old.end input.old.rest) }
     ensures end { OnOk result (input.new.end ≡ input.old.end) }
@@ -112,6 +117,7 @@ pub(crate) fn word(input: &mut Input) -> Result<u32, Refusal>
 }
 
 /// Takes the next token that isn't a Space, which has to be a control word, with the Spaces before it.
+#[tactic(auto, unfolding(crate::specs::Parts::said_by))]
 pub(crate) fn word_part(input: &mut Input) -> Result<u32, Refusal>
     ensures gives { Gives (λ word. read word input.new.rest) result (said_by word_of input.old.end (after_spaces input.old.rest)) }
     ensures end { OnOk result (input.new.end ≡ input.old.end) }
@@ -125,6 +131,7 @@ pub(crate) fn word_part(input: &mut Input) -> Result<u32, Refusal>
 }
 
 /// Takes the next token that isn't a Space, which has to be a digit, with the Spaces before it.
+#[tactic(auto, unfolding(crate::specs::Parts::said_by))]
 pub(crate) fn digit_part(input: &mut Input) -> Result<u8, Refusal>
     ensures gives { Gives (λ digit. read digit input.new.rest) result (said_by digit_of input.old.end (after_spaces input.old.rest)) }
     ensures end { OnOk result (input.new.end ≡ input.old.end) }
