@@ -1,5 +1,5 @@
 -- The arguments of a call, one after the other.
-use Rattle.std.proofs.Common.{◌≡◌, ℕ, zero, suc, List, [], ◌∷◌, ◌++◌, map, Ok, Err, refl, sym, ap, subst, ◌∙◌, append_assoc}
+use Rattle.std.proofs.Common.{◌≡◌, ℕ, zero, suc, List, [], ◌∷◌, ◌++◌, length, Ok, Err, Vec, Global, refl, sym, ap, ◌∙◌, append_assoc, arith}
 use Rattle.std.proofs.lemmas.List.{append-nil}
 use Rattle.tk_token.specs.declared.Kind.{Kind}
 use Rattle.tk_token.specs.declared.Kind.TheVariants.{Char, Word, Symbol, Open, Close, Param, Arg, Space}
@@ -12,6 +12,8 @@ use Rattle.tk_token.specs.Refusals.{Fails}
 use Rattle.tk_token.proofs.Answering.{fails_then, fails_as, then_is}
 use Rattle.tk_store.specs.declared.Macro.{Macro}
 use Rattle.tk_expand.specs.Arguments.{argument_of, Arguments, given, arguments_of, meant_by, with_arguments, text_of}
+use Rattle.tk_expand.specs.Expand.{pay, cost_of, left, replaced}
+use Rattle.tk_expand.specs.Texts.{texts_of}
 
 -- arguments that were taken stand before those of the answer
 abbrev pub with_taken : List (List Tok) → Answer Arguments → Answer Arguments
@@ -63,9 +65,16 @@ without_arguments : (body : List Tok) → with_arguments [] body ≡ body
 without_arguments [] = refl
 without_arguments (t ∷ ts) = ap (λ (us : List Tok). us ++ with_arguments [] ts) (itself t.kind t) ∙ ap (λ (us : List Tok). t ∷ us) (without_arguments ts)
 
--- a call without arguments stands for the body
-pub plain_text : (called : Macro) (at : ℕ) (ts : List Tok) → called.args ≡ 0 → text_of called at ts ≡ Ok (cut called.body ts)
-unfolding text_of arguments_of
-plain_text called at ts none =
-    ap (λ (n : ℕ). arguments_of at n ts >>= λ arguments. Ok (cut (with_arguments arguments.texts called.body) arguments.rest)) none
-    ∙ ap (λ (body : List Tok). (let c : Answer Cut = Ok (cut body ts) in c)) (without_arguments called.body)
+-- with no arguments a body stays as it is
+pub shared : (arguments : List (Vec Tok Global)) (body : List Tok) → length arguments ≡ 0 → body ≡ with_arguments (texts_of arguments) body
+shared [] body none = sym (without_arguments body)
+shared (a ∷ arguments) body none = absurd (omega (arith, none))
+
+-- a call whose arguments are known is replaced where it is paid for
+pub replaced_by : (budget units : ℕ) (called : Macro) (at : ℕ) (ts : List Tok) (texts : List (List Tok)) (rest : List Tok) → arguments_of at called.args ts ≡ Ok (given texts rest) → (texts' : List (List Tok)) → texts' ≡ texts → (body : List Tok) → body ≡ called.body → (paid : Answer ℕ) → pay budget units (cost_of (with_arguments texts' body)) at ≡ paid → replaced budget units called at ts ≡ (paid >>= λ paid. Ok (left paid (with_arguments texts' body ++ rest)))
+unfolding replaced text_of
+replaced_by budget units called at ts texts rest known texts' same body of_it paid pays =
+    ap (λ (a : Answer Arguments). (a >>= λ a. Ok (cut (with_arguments a.texts called.body) a.rest)) >>= λ text. pay budget units (cost_of text.front) at >>= λ paid. Ok (left paid (text.front ++ text.rest))) known
+    ∙ ap (λ (ts : List (List Tok)). pay budget units (cost_of (with_arguments ts called.body)) at >>= λ paid. Ok (left paid (with_arguments ts called.body ++ rest))) (sym same)
+    ∙ ap (λ (body : List Tok). pay budget units (cost_of (with_arguments texts' body)) at >>= λ paid. Ok (left paid (with_arguments texts' body ++ rest))) (sym of_it)
+    ∙ ap (λ (p : Answer ℕ). p >>= λ paid. Ok (left paid (with_arguments texts' body ++ rest))) pays

@@ -29,11 +29,15 @@ abbrev pub called_by : Macros → Kind → Option Macro
 called_by macros (Word w) = map.get macros w
 called_by macros _ = None
 
--- a call, whose word was read, is paid for, and its text takes its place: the cost is one more than the tokens of the text
+-- a text costs one more than it has tokens
+abbrev pub cost_of : List Tok → ℕ
+cost_of text = 1 + length text
+
+-- a call, whose word was read, is paid for, and its text takes its place
 unfoldable pub replaced : ℕ → ℕ → Macro → ℕ → List Tok → Answer Left
 replaced budget units called at ts = do
   text ← text_of called at ts
-  paid ← pay budget units (1 + length text.front) at
+  paid ← pay budget units (cost_of text.front) at
   Ok (left paid (text.front ++ text.rest))
 
 module _ (budget : ℕ) (macros : Macros) where

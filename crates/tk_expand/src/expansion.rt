@@ -1,17 +1,18 @@
 //! Macro calls: their arguments, their texts, and what they cost.
 
-ghost use Rattle.std.specs.Prelude.{◌≡◌, ◌+◌, ◌-◌, ◌≤◌, [], ◌++◌, length, map, IfOk, IfNone, OnOk};
-ghost use Rattle.std.specs.Option.{option_to_list, option_map};
+ghost use Rattle.std.specs.Prelude.{◌≡◌, ◌+◌, ◌-◌, ◌≤◌, ◌^◌, [], ◌++◌, length, Ok, Err, MatchOption, MatchResult, IfOk, IfNone, OnOk};
+ghost use Rattle.std.specs.Option.{option_to_list};
 ghost use Rattle.tk_token.specs.Groups.{cut};
 ghost use Rattle.tk_token.specs.Refusals.{Gives};
-ghost use Rattle.tk_expand.specs.Arguments.{arguments_of, given, with_arguments, meant_by, text_of};
-ghost use Rattle.tk_expand.specs.Expand.{left, replaced, front, full};
+ghost use Rattle.tk_expand.specs.Arguments.{arguments_of, given, with_arguments, meant_by};
+ghost use Rattle.tk_expand.specs.Texts.{texts_of};
+ghost use Rattle.tk_expand.specs.Expand.{cost_of, pay, left, replaced, front, full};
 
 use crate::{Input, Units};
 use std::alloc::{AllocError, Global};
 use std::slice;
 use tk_store::{Body, Macro, Store};
-use tk_token::{Kind, Refusal, Tok};
+use tk_token::{Code, Fault, Kind, Refusal, Tok};
 
 impl Input {
     /// Takes the token in front once no macro call is in front; there is none exactly at the end. Each call in front is
@@ -41,35 +42,22 @@ impl Input {
     }
 
     /// Pays for a call whose word was taken, and puts its text in its place.
-    #[tactic(auto, unfolding(crate::specs::Expand::replaced))]
+    #[tactic(auto, unfolding(crate::specs::Arguments::text_of, crate::specs::Expand::replaced))]
     fn replace(&mut self, called: &Macro, at: u32, units: &mut Units) -> Result<(), Refusal>
         ensures gives { Gives (λ _. left units.new.used self.new.rest) result (replaced units.old.budget units.old.used called.now at self.old.rest) }
         ensures end { OnOk result (self.new.end ≡ self.old.end) }
         ensures budget { units.new.budget ≡ units.old.budget }
     {
-        let text = self.text(called, at)?;
-        units.pay(1 + text.as_slice().len() as u64, at)?;
+        let arguments = self.arguments(called.args, at)?;
+        pay_for(units, &arguments, called.body.as_slice(), at)?;
+        let text = with_arguments(self.allocator(), &arguments, &called.body)?;
         self.push(text)?;
         Ok(())
     }
 
-    /// The text of a call whose word was taken. Its arguments are taken.
-    #[tactic(auto, using(crate::proofs::Calls::plain_text), unfolding(crate::specs::Arguments::text_of))]
-    fn text(&mut self, called: &Macro, at: u32) -> Result<Body, Refusal>
-        ensures gives { Gives (λ text. cut text self.new.rest) result (text_of called.now at self.old.rest) }
-        ensures end { OnOk result (self.new.end ≡ self.old.end) }
-    {
-        if called.args == 0 {
-            return Ok(called.body.copy()?);
-        }
-        let arguments = self.arguments(called.args, at)?;
-        let text = with_arguments(self.allocator(), &arguments, called.body.as_slice())?;
-        Ok(Body::from_vec(text)?)
-    }
-
     /// Takes so many arguments.
     fn arguments(&mut self, count: u8, at: u32) -> Result<Vec<Vec<Tok>>, Refusal>
-        ensures gives { Gives (λ texts. given (map (λ text. text.items) texts.items) self.new.rest) result (arguments_of at count self.old.rest) }
+        ensures gives { Gives (λ texts. given (texts_of texts.items) self.new.rest) result (arguments_of at count self.old.rest) }
         ensures end { OnOk result (self.new.end ≡ self.old.end) }
     {
         let mut arguments = Vec::new(self.allocator());
@@ -80,24 +68,58 @@ impl Input {
     }
 }
 
-/// The body with its arguments put in.
-fn with_arguments(
-    alloc: Global,
+/// Pays for a text before it is put together, so that no text is longer than the budget.
+fn pay_for(
+    units: &mut Units,
     arguments: &[Vec<Tok>],
     body: &[Tok],
-) -> Result<Vec<Tok>, AllocError>
-    ensures { IfOk result (λ text. text.items ≡ with_arguments (map (λ argument. argument.items) arguments.now) body.now) }
+    at: u32,
+) -> Result<(), Fault>
+    ensures pays { MatchResult result
+        (λ _. pay units.old.budget units.old.used (cost_of (with_arguments (texts_of arguments.now) body.now)) at ≡ Ok units.new.used)
+        (λ fault. pay units.old.budget units.old.used (cost_of (with_arguments (texts_of arguments.now) body.now)) at ≡ Err fault) }
+    ensures budget { units.new.budget ≡ units.old.budget }
 {
-    let mut text = Vec::new(alloc);
+    let _budget = units.budget;
+    match cost_of(arguments, body) {
+        Some(cost) => units.pay(cost, at),
+        None => Err(Fault {
+            code: Code::Budget,
+            at,
+        }),
+    }
+}
+
+/// One more than the tokens of a text, if it isn't past the greatest number.
+fn cost_of(arguments: &[Vec<Tok>], body: &[Tok]) -> Option<u64>
+    ensures { MatchOption result
+        (2 ^ 64 ≤ cost_of (with_arguments (texts_of arguments.now) body.now))
+        (λ cost. cost ≡ cost_of (with_arguments (texts_of arguments.now) body.now)) }
+{
+    let mut cost: u64 = 1;
     for tok in body {
+        cost = cost.checked_add(meant_by(arguments, tok).len() as u64)?;
+    }
+    Some(cost)
+}
+
+/// The body with its arguments put in. Without arguments it shares the tokens of the body.
+fn with_arguments(alloc: Global, arguments: &[Vec<Tok>], body: &Body) -> Result<Body, AllocError>
+    ensures { IfOk result (λ text. text ≡ with_arguments (texts_of arguments.now) body.now) }
+{
+    if arguments.is_empty() {
+        return Ok(body.copy()?);
+    }
+    let mut text = Vec::new(alloc);
+    for tok in body.as_slice() {
         text.extend_from_slice(meant_by(arguments, tok))?;
     }
-    Ok(text)
+    Body::from_vec(text)
 }
 
 /// What a token of a body stands for.
 fn meant_by<'a>(arguments: &'a [Vec<Tok>], tok: &'a Tok) -> &'a [Tok]
-    ensures { result.now ≡ meant_by (map (λ argument. argument.items) arguments.now) tok.now.kind tok.now }
+    ensures { result.now ≡ meant_by (texts_of arguments.now) tok.now.kind tok.now }
 {
     let itself = slice::from_ref(tok);
     let Kind::Arg(n) = tok.kind else {

@@ -1,6 +1,7 @@
-use Rattle.std.proofs.Common.{◌≡◌, map, take}
+use Rattle.std.proofs.Common.{◌≡◌, take}
 use Rattle.tk_expand.specs.Arguments.{with_arguments}
+use Rattle.tk_expand.specs.Texts.{texts_of}
 use Rattle.tk_expand.proofs.expansion.with_arguments.Given as goal
 
 abbrev pub invariant-loop-tok : goal.invariant-loop-tok
-invariant-loop-tok l = l.text.items ≡ with_arguments (map (λ argument. argument.items) l.arguments) (take l.tok-index l.body)
+invariant-loop-tok l = l.text.items ≡ with_arguments (texts_of l.arguments) (take l.tok-index l.body)
