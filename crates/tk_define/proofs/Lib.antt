@@ -1,3 +1,4 @@
 pub mod Written
 pub mod Counting
 pub mod Misfits
+pub mod Kept
