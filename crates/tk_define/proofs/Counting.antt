@@ -16,8 +16,8 @@ module _ (end count more : ℕ) (ts : List Tok) where
   abbrev by_next : Read Tok → Answer (Read ℕ)
   by_next next =
       if is_param next.value.kind
-        then (behind (is_digit (count + 1)) end next.rest >>= λ rest. parameters end (suc count) more rest)
-        else (behind is_open end ts >>= λ rest. Ok (read count rest))
+      then (behind (is_digit (count + 1)) end next.rest >>= λ rest. parameters end (suc count) more rest)
+      else (behind is_open end ts >>= λ rest. Ok (read count rest))
 
   abbrev turn : Answer (Read ℕ)
   turn = next_token end ts >>= by_next

@@ -63,7 +63,7 @@ unfolding before_in
 before_plain wanted depth [] h = tt
 before_plain wanted depth (t ∷ ts) h =
     chosen (depth == 0 && wanted t.kind) (Some (cut [] ts)) _ (tt, h.1)
-      (chosen (depth == 0 && is_close t.kind) None _ tt (with_first_plain t (before_in wanted (depth_after depth t.kind) ts) h.0 (before_plain wanted (depth_after depth t.kind) ts h.1)))
+    (chosen (depth == 0 && is_close t.kind) None _ tt (with_first_plain t (before_in wanted (depth_after depth t.kind) ts) h.0 (before_plain wanted (depth_after depth t.kind) ts h.1)))
 
 argument_from_plain : (k : Kind) (t : Tok) (ts : List Tok) → Plain t → Each ts → IfSome (argument_from k t ts) Both
 argument_from_plain (Char c) t ts p h = ((p, tt), h)
@@ -93,8 +93,8 @@ unfolding arguments_of
 arguments_plain at zero ts h = record { count = refl; texts = tt; rest = h }
 arguments_plain at (suc n) ts h =
     then_holds Both (AllPlain (suc n)) (or_fault (argument_of ts) MacroArg at) _ (or_fault_holds Both (argument_of ts) MacroArg at (argument_plain ts h)) (λ first b.
-      then_holds (AllPlain n) (AllPlain (suc n)) (arguments_of at n first.rest) _ (arguments_plain at n first.rest b.1) (λ more m.
-        record { count = omega (arith, m.count); texts = (b.0, m.texts); rest = m.rest }))
+    then_holds (AllPlain n) (AllPlain (suc n)) (arguments_of at n first.rest) _ (arguments_plain at n first.rest b.1) (λ more m.
+    record { count = omega (arith, m.count); texts = (b.0, m.texts); rest = m.rest }))
 
 got : (texts : List (List Tok)) (i : ℕ) (d : List Tok) → i < length texts → AllByRecursion Each texts → Each (unwrap_or (slice_get texts i) d)
 got [] i d lt h = absurd (omega arith)
@@ -122,9 +122,11 @@ with_plain texts (t ∷ ts) h p = appended (meant_by texts t.kind t) (with_argum
 text_plain : (called : Macro) → IsProper called → (at : ℕ) (ts : List Tok) → Each ts → IfOk (text_of called at ts) Both
 unfolding text_of
 text_plain called proper at ts h =
-    then_holds (AllPlain called.args) Both (arguments_of at called.args ts) _ (arguments_plain at called.args ts h) (λ a p.
-      (with_plain a.texts called.body p.texts (by_recursion (λ (t : Tok). IsArgOf (length a.texts) t.kind) called.body
-        (subst (λ (n : ℕ). All (λ (t : Tok). IsArgOf n t.kind) called.body) (sym p.count) proper.places)), p.rest))
+    then_holds (AllPlain called.args) Both (arguments_of at called.args ts) _ (arguments_plain at called.args ts h) (λ a p. (
+      with_plain a.texts called.body p.texts (by_recursion (λ (t : Tok). IsArgOf (length a.texts) t.kind) called.body
+          (subst (λ (n : ℕ). All (λ (t : Tok). IsArgOf n t.kind) called.body) (sym p.count) proper.places)),
+      p.rest,
+    ))
 
 -- ---- expansion
 
@@ -146,7 +148,7 @@ module _ (budget : ℕ) (macros : Macros) (proper : AreProper macros) where
   unfolding replaced
   replaced_plain units called known at ts h =
       then_holds Both Stays (text_of called at ts) _ (text_plain called known at ts h) (λ c b.
-        then_holds (λ paid. Unit {0}) Stays (pay budget units (cost_of c.front) at) _ (any (pay budget units (cost_of c.front) at)) (λ paid u. appended c.front c.rest b.0 b.1))
+      then_holds (λ paid. Unit {0}) Stays (pay budget units (cost_of c.front) at) _ (any (pay budget units (cost_of c.front) at)) (λ paid u. appended c.front c.rest b.0 b.1))
     where
       any : (a : Answer ℕ) → IfOk a (λ paid. Unit {0})
       any (Ok x) = tt

@@ -34,7 +34,7 @@ body_of args (t ∷ []) = do
   first ← itself t.kind t
   Ok (first ∷ [])
 body_of args (t ∷ u ∷ ts) =
-  if is_param t.kind
+    if is_param t.kind
     then (do
       first ← meant_by args u.kind t.at
       more ← body_of args ts

@@ -18,8 +18,8 @@ parameters end count zero ts = do
 parameters end count (suc more) ts = do
   next ← next_token end ts
   if is_param next.value.kind
-    then (behind (is_digit (count + 1)) end next.rest >>= λ rest. parameters end (suc count) more rest)
-    else (behind is_open end ts >>= λ rest. Ok (read count rest))
+      then (behind (is_digit (count + 1)) end next.rest >>= λ rest. parameters end (suc count) more rest)
+      else (behind is_open end ts >>= λ rest. Ok (read count rest))
 
 -- ---- the parts of `\newcommand`, between which Spaces may stand
 

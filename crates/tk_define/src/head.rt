@@ -5,7 +5,9 @@ ghost use Rattle.tk_token.specs.Refusals.{Gives};
 ghost use Rattle.tk_define.specs.Parts.{read};
 ghost use Rattle.tk_define.specs.Heads.{parameters, name_start, braced_name, name_of, bracketed_count, count_of};
 
-use crate::parts::{Wanted, digit_part, expect, expect_part, misfit, next_part, next_token, word_part};
+use crate::parts::{
+    Wanted, digit_part, expect, expect_part, misfit, next_part, next_token, word_part,
+};
 use tk_expand::Input;
 use tk_token::{Kind, Refusal, Tok};
 
