@@ -300,11 +300,13 @@ fn the_first_fault_stands(rt: HostRuntime) -> Result<(), Fail> {
 
 /// The fault of a text, and the units that were paid before it.
 fn fault_of(rt: &impl Abort, alloc: Global, text: &str, budget: u64) -> Option<(Fault, u64)> {
-    let Ok(Lexed { toks, names }) = lexed(rt, alloc, text) else {
+    let bytes = text.as_bytes();
+    assert!(rt; bytes.len() <= 1_000);
+    let Ok(Lexed { toks, names }) = lex(alloc, bytes) else {
         return None;
     };
     let mut units = Units { used: 0, budget };
-    match run(alloc, &names, &toks, text.len() as u32, &mut units) {
+    match run(alloc, &names, &toks, bytes.len() as u32, &mut units) {
         Err(Refusal::Fault(fault)) => Some((fault, units.used)),
         _ => None,
     }
