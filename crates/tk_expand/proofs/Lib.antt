@@ -1,5 +1,6 @@
 pub mod Calls
 pub mod Expanded
+pub mod Finished
 pub mod Fronts
 pub mod Groups
 pub mod Lengths

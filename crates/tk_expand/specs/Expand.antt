@@ -1,6 +1,8 @@
 -- Expansion: macro calls are replaced from the front on, and each is paid for.
-use Rattle.std.specs.Prelude.{ℕ, ◌+◌, ◌-◌, nat_lt, if◌then◌else◌, List, [], ◌∷◌, ◌++◌, length, Option, Some, None, Ok}
+use Rattle.std.specs.Prelude.{◌≡◌, ℕ, ◌+◌, ◌-◌, true, nat_lt, if◌then◌else◌, List, [], ◌∷◌, ◌++◌, length, Option, Some, None, Ok}
 use Rattle.std.specs.FinMap as map
+use Rattle.std.specs.List.{list_all}
+use Rattle.std.specs.Option.{is_none}
 use Rattle.tk_token.specs.declared.Kind.{Kind}
 use Rattle.tk_token.specs.declared.Kind.TheVariants.{Word}
 use Rattle.tk_token.specs.declared.Tok.{Tok}
@@ -39,6 +41,15 @@ replaced budget units called at ts = do
   text ← text_of called at ts
   paid ← pay budget units (cost_of text.front) at
   Ok (left paid (text.front ++ text.rest))
+
+-- the token in front, if there is one, calls nothing
+abbrev pub StandsStill : Macros → List Tok → Type 0
+StandsStill macros [] = Unit {0}
+StandsStill macros (t ∷ ts) = called_by macros t.kind ≡ None
+
+-- no token of the list calls anything
+abbrev pub IsExpanded : Macros → List Tok → Type 0
+IsExpanded macros ts = list_all (λ (t : Tok). is_none (called_by macros t.kind)) ts ≡ true
 
 module _ (budget : ℕ) (macros : Macros) where
   -- a token in front stays where it calls nothing, else its call is replaced
