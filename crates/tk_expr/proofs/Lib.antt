@@ -1,1 +1,9 @@
+pub mod Continuations
+pub mod Decimals
+pub mod Fronts
+pub mod Gaps
+pub mod Levels
 pub mod Places
+pub mod Readings
+pub mod SignRuns
+pub mod Trees
