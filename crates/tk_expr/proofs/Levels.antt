@@ -160,7 +160,7 @@ module _ (font : FontUnits) where
   no_bracket m g e (Second f i y) k x at ps h = no_close m g e k _ at ps h
   no_bracket m g e (Each f y) k x at ps h = no_further_end g e h.read
 
-  end_of_list : (m : Mark) (at : ℕ) (ps : List Piece) → is_gap m ≡ false → skip (piece m at ∷ ps) ≡ [] → ⊥
+  pub end_of_list : (m : Mark) (at : ℕ) (ps : List Piece) → is_gap m ≡ false → skip (piece m at ∷ ps) ≡ [] → ⊥
   end_of_list m at ps g e = absurd (not_empty (sym (solid m (skip ps) (piece m at ∷ ps) g) ∙ e))
     where
       solid : (m : Mark) (more ps : List Piece) → is_gap m ≡ false → past_gap m more ps ≡ ps

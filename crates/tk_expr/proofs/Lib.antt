@@ -1,9 +1,14 @@
+pub mod Behind
+pub mod Closing
 pub mod Continuations
 pub mod Decimals
+pub mod Ends
 pub mod Fronts
 pub mod Gaps
 pub mod Levels
+pub mod Outcomes
 pub mod Places
 pub mod Readings
 pub mod SignRuns
+pub mod Steps
 pub mod Trees
