@@ -3,12 +3,16 @@ pub mod Closing
 pub mod Continuations
 pub mod Decimals
 pub mod Ends
+pub mod Finishing
 pub mod Fronts
 pub mod Gaps
 pub mod Levels
+pub mod OneAnswer
 pub mod Outcomes
 pub mod Places
+pub mod ProperPieces
 pub mod Readings
+pub mod Runs
 pub mod SignRuns
 pub mod Steps
 pub mod Trees

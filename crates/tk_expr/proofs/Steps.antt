@@ -34,10 +34,10 @@ use Rattle.tk_expr.proofs.Outcomes.{IsPlain, CalledAt, Opens, NamedAt, Ahead, No
 use Rattle.tk_expr.proofs.Behind.{only_right, kept_mode, opened_is, BehindIs, after_is}
 
 -- no sign
-some_not_none : {A : Type 0} {a : A} {o : Option A} → o ≡ None → o ≡ Some a → ⊥
+pub some_not_none : {A : Type 0} {a : A} {o : Option A} → o ≡ None → o ≡ Some a → ⊥
 some_not_none e f = true≢false (ap is_some (sym f ∙ e))
 
-same_some : {A : Type 0} {a b : A} {o : Option A} → o ≡ Some a → o ≡ Some b → a ≡ b
+pub same_some : {A : Type 0} {a b : A} {o : Option A} → o ≡ Some a → o ≡ Some b → a ≡ b
 same_some {a = a} e f = ap (λ o. elim o as (λ _. _) [ None ↦ a | Some x ↦ x ]) (sym e ∙ f)
 
 module _ (font : FontUnits) where
