@@ -1,5 +1,5 @@
 -- One piece behind an operand.
-use Rattle.std.proofs.Common.{◌≡◌, ◌⊎◌, ◌↔◌, inl, inr, ℕ, suc, ◌≤◌, Bool, true, false, cond, true≢false, nat_lt, List, [], ◌∷◌, length, is_some, Option, Some, None, Ok, refl, sym, ap, ap₂, subst, ◌∙◌, arith, ◌||◌, ltb-true, ltb-false}
+use Rattle.std.proofs.Common.{◌≡◌, ◌⊎◌, ◌↔◌, inl, inr, ℕ, Bool, true, false, cond, nat_lt, List, ◌∷◌, length, is_some, Option, Some, None, Ok, refl, sym, ap, subst, ◌∙◌, ◌||◌, ltb-true, ltb-false}
 use Rattle.tk_num.specs.declared.unit.Unit.{Unit as AUnit}
 use Rattle.tk_token.specs.declared.Code.TheVariants.{TooDeep, Expression}
 use Rattle.tk_token.specs.Answers.{Answer, fault}
@@ -7,26 +7,26 @@ use Rattle.tk_expr.specs.declared.FontUnits.{FontUnits}
 use Rattle.tk_expr.specs.declared.operators.Operator.{Operator}
 use Rattle.tk_expr.specs.declared.operators.Operator.TheVariants.{Raise, Multiply, Divide, Add, Subtract, Same as Equal, Differs, AtMost, AtLeast, Below, Above, Both, Either}
 use Rattle.tk_expr.specs.declared.pieces.Mark.{Mark}
-use Rattle.tk_expr.specs.declared.pieces.Mark.TheVariants.{Digit, Point, Measure, Radian, Pi, Single, Double, Several, Word, Plus, Minus, Star, Slash, Caret, Bar, Ampersand, Equals, Bang, Less, Greater, Question, Colon, Comma, Left, Right, Gap, Other}
+use Rattle.tk_expr.specs.declared.pieces.Mark.TheVariants.{Measure, Radian, Plus, Minus, Star, Slash, Caret, Bar, Ampersand, Equals, Bang, Less, Greater, Question, Colon, Comma, Right, Gap}
 use Rattle.tk_expr.specs.declared.pieces.Piece.{Piece}
 use Rattle.tk_expr.specs.declared.machine.Waiting.{Waiting}
 use Rattle.tk_expr.specs.declared.machine.Pending.{Pending}
 use Rattle.tk_expr.specs.declared.machine.Frame.{Frame}
-use Rattle.tk_expr.specs.declared.machine.Frame.TheVariants.{Inside, Then, Else}
+use Rattle.tk_expr.specs.declared.machine.Frame.TheVariants.{Then}
 use Rattle.tk_expr.specs.declared.machine.Mode.{Mode}
 use Rattle.tk_expr.specs.declared.machine.Mode.TheVariants.{Wanted, Ordered, Half, After}
 use Rattle.tk_expr.specs.Evaluates.{is_unit}
 use Rattle.tk_expr.specs.Faults.{Opener, name_behind, open_behind}
-use Rattle.tk_expr.specs.Grammar.{piece, Level, Postfixes, Powers, Products, Sums, Comparisons, Conjunctions, Disjunctions}
-use Rattle.tk_expr.specs.Machine.{Found, State, no_signs, nothing, signed_found, applied, powered, multiplied, added, compared, conjoined, disjoined, waiting, product_waits, sum_waits, comparison_waits, waits, closed, wanted_in, opened, operator, comparison, after, to_mode}
-use Rattle.tk_expr.proofs.Readings.{unit_found, radians_found, Whole, Part, Goes, Exponential}
+use Rattle.tk_expr.specs.Grammar.{piece, Postfixes, Powers, Products, Sums, Comparisons, Conjunctions, Disjunctions}
+use Rattle.tk_expr.specs.Machine.{Found, State, nothing, applied, powered, multiplied, added, compared, conjoined, disjoined, waiting, product_waits, sum_waits, comparison_waits, waits, wanted_in, opened, operator, comparison, after}
+use Rattle.tk_expr.proofs.Readings.{unit_found, radians_found, Goes, Exponential}
 use Rattle.tk_expr.proofs.Continuations.{Behind, Via, after_disjunction, after_conjunction, after_comparison, comparing, after_sum, after_product, after_signed, after_postfix, after_primary, wants, directly, ends_in, Completes}
 use Rattle.tk_expr.proofs.Closing.{HalfMode}
 use Rattle.tk_expr.proofs.Ends.{Unnamed, EndIs, right_is, comma_is, colon_is}
 use Rattle.tk_expr.proofs.Fronts.{is_gap, OperatorAt, operator_in, operator_on, ChoiceAt, choice_on}
 use Rattle.tk_expr.proofs.Gaps.{pass_primary, pass_ends}
-use Rattle.tk_expr.proofs.Levels.{only_left, via_map, stays_via, to_power, to_factor, to_summand, to_comparand, to_conjunct, to_disjunct, to_choice, to_end, IsNot, Refuses, from_power, from_factor, from_summand, from_comparand, from_conjunct, from_disjunct, from_choice, refuse_disjunction, refuse_conjunction, refuse_comparison, refuse_sum, refuse_product, refuse_signed, refuse_postfix, refuse_primary, no_ends, is_end, fresh_product, fresh_sum, fresh_comparison, fresh_conjunction, fresh_disjunction, fresh_whole, Tidy}
-use Rattle.tk_expr.proofs.Outcomes.{Opens, NamedAt, Ahead, NoMiscount, Valid, FramesTidy, Kept, SureIs, steps, refuses, StepIs, sure, deep, Same, sure_as}
+use Rattle.tk_expr.proofs.Levels.{only_left, via_map, to_power, to_factor, to_summand, to_comparand, to_conjunct, to_disjunct, to_choice, to_end, IsNot, Refuses, from_power, from_factor, from_summand, from_comparand, from_conjunct, from_disjunct, from_choice, refuse_disjunction, refuse_conjunction, refuse_comparison, refuse_sum, refuse_product, refuse_signed, refuse_postfix, refuse_primary, no_ends, is_end, fresh_product, fresh_sum, fresh_comparison, fresh_conjunction, fresh_disjunction, fresh_whole, Tidy}
+use Rattle.tk_expr.proofs.Outcomes.{Opens, NamedAt, Ahead, NoMiscount, FramesTidy, Kept, steps, refuses, StepIs, sure, deep, Same, sure_as}
 use Rattle.tk_expr.proofs.SignRuns.{signed_none}
 
 pub only_right : {A B : Type 0} → (A → ⊥) → A ⊎ B → B
@@ -122,51 +122,58 @@ module _ (font : FontUnits) where
     caret_same : after_primary font p (ends_in font fs v) x (piece Caret at ∷ ps) ↔ wants font (waits Raise at x p).power (waits Raise at x p) (ends_in font fs v) ps
     caret_same =
         let k = ends_in font fs v in
-        let f = raise_same at x p k ps in
-        (λ h. f.0 (only_right (shut_signed Caret refl refl (λ k x at ps h. h) p fs v (λ k x at ps h. h) (λ k x at ps h. h) (λ k x at ps h. h) (λ k x at ps h. h) (λ k x at ps h. h) (powered p x) at ps) (operator_in font Caret at ps (after_signed font p k) refl (from_power font Caret refl p k x at ps (λ k x at ps h. h) h))),
-        λ h. to_power font p k x (piece Caret at ∷ ps) (operator_on font Powers (after_signed font p k) (powered p x) Caret at ps (f.1 h)))
+        let f = raise_same at x p k ps in (
+          λ h. f.0 (only_right (shut_signed Caret refl refl (λ k x at ps h. h) p fs v (λ k x at ps h. h) (λ k x at ps h. h) (λ k x at ps h. h) (λ k x at ps h. h) (λ k x at ps h. h) (powered p x) at ps) (operator_in font Caret at ps (after_signed font p k) refl (from_power font Caret refl p k x at ps (λ k x at ps h. h) h))),
+          λ h. to_power font p k x (piece Caret at ∷ ps) (operator_on font Powers (after_signed font p k) (powered p x) Caret at ps (f.1 h)),
+        )
 
     star_same : after_primary font p (ends_in font fs v) x (piece Star at ∷ ps) ↔ wants font None (waits Multiply at x p) (ends_in font fs v) ps
     star_same =
         let k = ends_in font fs v in
-        let f = fresh_product font (product_waits Multiply at x p) k ps in
-        (λ h. f.0 (only_right (shut_product Star refl refl (λ k x at ps h. h) p fs v (λ k x at ps h. h) (λ k x at ps h. h) (λ k x at ps h. h) (λ k x at ps h. h) (multiplied p x) at ps) (operator_in font Star at ps (after_product font p k) refl (from_factor font Star refl p k x at ps (λ k x at ps h. h) (λ k x at ps h. h) h))),
-        λ h. to_factor font p k x (piece Star at ∷ ps) (operator_on font Products (after_product font p k) (multiplied p x) Star at ps (f.1 h)))
+        let f = fresh_product font (product_waits Multiply at x p) k ps in (
+          λ h. f.0 (only_right (shut_product Star refl refl (λ k x at ps h. h) p fs v (λ k x at ps h. h) (λ k x at ps h. h) (λ k x at ps h. h) (λ k x at ps h. h) (multiplied p x) at ps) (operator_in font Star at ps (after_product font p k) refl (from_factor font Star refl p k x at ps (λ k x at ps h. h) (λ k x at ps h. h) h))),
+          λ h. to_factor font p k x (piece Star at ∷ ps) (operator_on font Products (after_product font p k) (multiplied p x) Star at ps (f.1 h)),
+        )
 
     slash_same : after_primary font p (ends_in font fs v) x (piece Slash at ∷ ps) ↔ wants font None (waits Divide at x p) (ends_in font fs v) ps
     slash_same =
         let k = ends_in font fs v in
-        let f = fresh_product font (product_waits Divide at x p) k ps in
-        (λ h. f.0 (only_right (shut_product Slash refl refl (λ k x at ps h. h) p fs v (λ k x at ps h. h) (λ k x at ps h. h) (λ k x at ps h. h) (λ k x at ps h. h) (multiplied p x) at ps) (operator_in font Slash at ps (after_product font p k) refl (from_factor font Slash refl p k x at ps (λ k x at ps h. h) (λ k x at ps h. h) h))),
-        λ h. to_factor font p k x (piece Slash at ∷ ps) (operator_on font Products (after_product font p k) (multiplied p x) Slash at ps (f.1 h)))
+        let f = fresh_product font (product_waits Divide at x p) k ps in (
+          λ h. f.0 (only_right (shut_product Slash refl refl (λ k x at ps h. h) p fs v (λ k x at ps h. h) (λ k x at ps h. h) (λ k x at ps h. h) (λ k x at ps h. h) (multiplied p x) at ps) (operator_in font Slash at ps (after_product font p k) refl (from_factor font Slash refl p k x at ps (λ k x at ps h. h) (λ k x at ps h. h) h))),
+          λ h. to_factor font p k x (piece Slash at ∷ ps) (operator_on font Products (after_product font p k) (multiplied p x) Slash at ps (f.1 h)),
+        )
 
     plus_same : after_primary font p (ends_in font fs v) x (piece Plus at ∷ ps) ↔ wants font None (waits Add at x p) (ends_in font fs v) ps
     plus_same =
         let k = ends_in font fs v in
-        let f = fresh_sum font (sum_waits Add at x p) k ps in
-        (λ h. f.0 (only_right (shut_sum Plus refl refl (λ k x at ps h. h) p fs v (λ k x at ps h. h) (λ k x at ps h. h) (λ k x at ps h. h) (added p x) at ps) (operator_in font Plus at ps (after_sum font p k) refl (from_summand font Plus refl p k x at ps (λ k x at ps h. h) (λ k x at ps h. h) (λ k x at ps h. h) h))),
-        λ h. to_summand font p k x (piece Plus at ∷ ps) (operator_on font Sums (after_sum font p k) (added p x) Plus at ps (f.1 h)))
+        let f = fresh_sum font (sum_waits Add at x p) k ps in (
+          λ h. f.0 (only_right (shut_sum Plus refl refl (λ k x at ps h. h) p fs v (λ k x at ps h. h) (λ k x at ps h. h) (λ k x at ps h. h) (added p x) at ps) (operator_in font Plus at ps (after_sum font p k) refl (from_summand font Plus refl p k x at ps (λ k x at ps h. h) (λ k x at ps h. h) (λ k x at ps h. h) h))),
+          λ h. to_summand font p k x (piece Plus at ∷ ps) (operator_on font Sums (after_sum font p k) (added p x) Plus at ps (f.1 h)),
+        )
 
     minus_same : after_primary font p (ends_in font fs v) x (piece Minus at ∷ ps) ↔ wants font None (waits Subtract at x p) (ends_in font fs v) ps
     minus_same =
         let k = ends_in font fs v in
-        let f = fresh_sum font (sum_waits Subtract at x p) k ps in
-        (λ h. f.0 (only_right (shut_sum Minus refl refl (λ k x at ps h. h) p fs v (λ k x at ps h. h) (λ k x at ps h. h) (λ k x at ps h. h) (added p x) at ps) (operator_in font Minus at ps (after_sum font p k) refl (from_summand font Minus refl p k x at ps (λ k x at ps h. h) (λ k x at ps h. h) (λ k x at ps h. h) h))),
-        λ h. to_summand font p k x (piece Minus at ∷ ps) (operator_on font Sums (after_sum font p k) (added p x) Minus at ps (f.1 h)))
+        let f = fresh_sum font (sum_waits Subtract at x p) k ps in (
+          λ h. f.0 (only_right (shut_sum Minus refl refl (λ k x at ps h. h) p fs v (λ k x at ps h. h) (λ k x at ps h. h) (λ k x at ps h. h) (added p x) at ps) (operator_in font Minus at ps (after_sum font p k) refl (from_summand font Minus refl p k x at ps (λ k x at ps h. h) (λ k x at ps h. h) (λ k x at ps h. h) h))),
+          λ h. to_summand font p k x (piece Minus at ∷ ps) (operator_on font Sums (after_sum font p k) (added p x) Minus at ps (f.1 h)),
+        )
 
     both_same : after_primary font p (ends_in font fs v) x (piece Ampersand at ∷ ps) ↔ directly font Ampersand (wants font None (waits Both at x p) (ends_in font fs v)) ps
     both_same =
         let k = ends_in font fs v in
-        let f = λ (qs : List Piece). fresh_conjunction font (waits Both at x p) k qs in
-        (λ h. let (n, qs, e, g) = only_right (shut_conjunction Ampersand refl refl (λ k x at ps h. h) p fs v (λ k x at ps h. h) (conjoined p x) at ps) (operator_in font Ampersand at ps (after_conjunction font p k) refl (from_conjunct font Ampersand refl p k x at ps (λ k x at ps h. h) (λ k x at ps h. h) (λ k x at ps h. h) (λ k x at ps h. h) (λ k x at ps h. h) h)) in (n, qs, e, (f qs).0 g),
-        λ (n, qs, e, g). to_conjunct font p k x (piece Ampersand at ∷ ps) (operator_on font Conjunctions (after_conjunction font p k) (conjoined p x) Ampersand at ps (n, qs, e, (f qs).1 g)))
+        let f = λ (qs : List Piece). fresh_conjunction font (waits Both at x p) k qs in (
+          λ h. let (n, qs, e, g) = only_right (shut_conjunction Ampersand refl refl (λ k x at ps h. h) p fs v (λ k x at ps h. h) (conjoined p x) at ps) (operator_in font Ampersand at ps (after_conjunction font p k) refl (from_conjunct font Ampersand refl p k x at ps (λ k x at ps h. h) (λ k x at ps h. h) (λ k x at ps h. h) (λ k x at ps h. h) (λ k x at ps h. h) h)) in (n, qs, e, (f qs).0 g),
+          λ (n, qs, e, g). to_conjunct font p k x (piece Ampersand at ∷ ps) (operator_on font Conjunctions (after_conjunction font p k) (conjoined p x) Ampersand at ps (n, qs, e, (f qs).1 g)),
+        )
 
     either_same : after_primary font p (ends_in font fs v) x (piece Bar at ∷ ps) ↔ directly font Bar (wants font None (waits Either at x p) (ends_in font fs v)) ps
     either_same =
         let k = ends_in font fs v in
-        let f = λ (qs : List Piece). fresh_disjunction font (waits Either at x p) k qs in
-        (λ h. let (n, qs, e, g) = only_right (shut_disjunction Bar refl refl (λ k x at ps h. h) p fs v (disjoined p x) at ps) (operator_in font Bar at ps (after_disjunction font k) refl (from_disjunct font Bar refl p k x at ps (λ k x at ps h. h) (λ k x at ps h. h) (λ k x at ps h. h) (λ k x at ps h. h) (λ k x at ps h. h) (λ k x at ps h. h) h)) in (n, qs, e, (f qs).0 g),
-        λ (n, qs, e, g). to_disjunct font p k x (piece Bar at ∷ ps) (operator_on font Disjunctions (after_disjunction font k) (disjoined p x) Bar at ps (n, qs, e, (f qs).1 g)))
+        let f = λ (qs : List Piece). fresh_disjunction font (waits Either at x p) k qs in (
+          λ h. let (n, qs, e, g) = only_right (shut_disjunction Bar refl refl (λ k x at ps h. h) p fs v (disjoined p x) at ps) (operator_in font Bar at ps (after_disjunction font k) refl (from_disjunct font Bar refl p k x at ps (λ k x at ps h. h) (λ k x at ps h. h) (λ k x at ps h. h) (λ k x at ps h. h) (λ k x at ps h. h) (λ k x at ps h. h) h)) in (n, qs, e, (f qs).0 g),
+          λ (n, qs, e, g). to_disjunct font p k x (piece Bar at ∷ ps) (operator_on font Disjunctions (after_disjunction font k) (disjoined p x) Bar at ps (n, qs, e, (f qs).1 g)),
+        )
 
   -- ---- comparisons
 
@@ -198,9 +205,10 @@ module _ (font : FontUnits) where
     -- where none waits
     alone_same : (at : ℕ) (x : Found) (p : Pending) (fs : List Frame) (ps : List Piece) (v : Found) → p.comparison ≡ None → (r : Type 0) → OperatorAt font Comparisons (after_comparison font p (ends_in font fs v)) (compared p x) m at ps ↔ r → after_primary font p (ends_in font fs v) x (piece m at ∷ ps) ↔ r
     alone_same at x p fs ps v alone r f =
-        let k = ends_in font fs v in
-        (λ h. f.0 (only_right (shut_comparison m g e c p fs v n5 n6 (compared p x) at ps) (operator_in font m at ps (after_comparison font p k) g (comparand_in p.comparison m g p k x at ps refl alone (from_comparand font m g p k x at ps n0 n1 n2 n3 h)))),
-        λ h. to_comparand font p k x (piece m at ∷ ps) (comparand_on m p k x at ps alone (operator_on font Comparisons (after_comparison font p k) (compared p x) m at ps (f.1 h))))
+        let k = ends_in font fs v in (
+          λ h. f.0 (only_right (shut_comparison m g e c p fs v n5 n6 (compared p x) at ps) (operator_in font m at ps (after_comparison font p k) g (comparand_in p.comparison m g p k x at ps refl alone (from_comparand font m g p k x at ps n0 n1 n2 n3 h)))),
+          λ h. to_comparand font p k x (piece m at ∷ ps) (comparand_on m p k x at ps alone (operator_on font Comparisons (after_comparison font p k) (compared p x) m at ps (f.1 h))),
+        )
 
     -- where one waits
     second_refused : (w : Waiting) (at : ℕ) (x : Found) (p : Pending) (fs : List Frame) (ps : List Piece) (v : Found) → p.comparison ≡ Some w → after_primary font p (ends_in font fs v) x (piece m at ∷ ps) → ⊥
@@ -232,9 +240,10 @@ module _ (font : FontUnits) where
   question_same : (at : ℕ) (x : Found) (p : Pending) (fs : List Frame) (ps : List Piece) (v : Found) → after_primary font p (ends_in font fs v) x (piece Question at ∷ ps) ↔ wants font None nothing (ends_in font (Then (disjoined p x) ∷ fs) v) ps
   question_same at x p fs ps v =
       let k = ends_in font fs v in
-      let f = fresh_whole font (ends_in font (Then (disjoined p x) ∷ fs) v) ps in
-      (λ h. f.0 (only_right (no_ends font Question refl refl fs v (disjoined p x) at ps) (from_choice font Question refl p k x at ps (λ k x at ps h. h) (λ k x at ps h. h) (λ k x at ps h. h) (λ k x at ps h. h) (λ k x at ps h. h) (λ k x at ps h. h) (λ k x at ps h. h) h)),
-      λ h. to_choice font p k x (piece Question at ∷ ps) (choice_on font k (disjoined p x) at ps (f.1 h)))
+      let f = fresh_whole font (ends_in font (Then (disjoined p x) ∷ fs) v) ps in (
+        λ h. f.0 (only_right (no_ends font Question refl refl fs v (disjoined p x) at ps) (from_choice font Question refl p k x at ps (λ k x at ps h. h) (λ k x at ps h. h) (λ k x at ps h. h) (λ k x at ps h. h) (λ k x at ps h. h) (λ k x at ps h. h) (λ k x at ps h. h) h)),
+        λ h. to_choice font p k x (piece Question at ∷ ps) (choice_on font k (disjoined p x) at ps (f.1 h)),
+      )
 
   -- ---- one piece
 
@@ -244,15 +253,17 @@ module _ (font : FontUnits) where
 
   unit_same : (u : AUnit) (at : ℕ) (x : Found) (p : Pending) (fs : List Frame) (ps : List Piece) (v : Found) → after_primary font p (ends_in font fs v) x (piece (Measure u) at ∷ ps) ↔ after_primary font p (ends_in font fs v) (unit_found font u at x) ps
   unit_same u at x p fs ps v =
-      let k = ends_in font fs v in
-      (λ h. only_right (shut_postfix (Measure u) refl refl (λ k x at ps h. h) p fs v (λ k x at ps h. h) (λ k x at ps h. h) (λ k x at ps h. h) (λ k x at ps h. h) (λ k x at ps h. h) (λ k x at ps h. h) x at ps) (operator_in font (Measure u) at ps (after_postfix font p k) refl h),
-      λ h. operator_on font Postfixes (after_postfix font p k) x (Measure u) at ps h)
+      let k = ends_in font fs v in (
+        λ h. only_right (shut_postfix (Measure u) refl refl (λ k x at ps h. h) p fs v (λ k x at ps h. h) (λ k x at ps h. h) (λ k x at ps h. h) (λ k x at ps h. h) (λ k x at ps h. h) (λ k x at ps h. h) x at ps) (operator_in font (Measure u) at ps (after_postfix font p k) refl h),
+        λ h. operator_on font Postfixes (after_postfix font p k) x (Measure u) at ps h,
+      )
 
   radians_same : (at : ℕ) (x : Found) (p : Pending) (fs : List Frame) (ps : List Piece) (v : Found) → after_primary font p (ends_in font fs v) x (piece Radian at ∷ ps) ↔ after_primary font p (ends_in font fs v) (radians_found at x) ps
   radians_same at x p fs ps v =
-      let k = ends_in font fs v in
-      (λ h. only_right (shut_postfix Radian refl refl (λ k x at ps h. h) p fs v (λ k x at ps h. h) (λ k x at ps h. h) (λ k x at ps h. h) (λ k x at ps h. h) (λ k x at ps h. h) (λ k x at ps h. h) x at ps) (operator_in font Radian at ps (after_postfix font p k) refl h),
-      λ h. operator_on font Postfixes (after_postfix font p k) x Radian at ps h)
+      let k = ends_in font fs v in (
+        λ h. only_right (shut_postfix Radian refl refl (λ k x at ps h. h) p fs v (λ k x at ps h. h) (λ k x at ps h. h) (λ k x at ps h. h) (λ k x at ps h. h) (λ k x at ps h. h) (λ k x at ps h. h) x at ps) (operator_in font Radian at ps (after_postfix font p k) refl h),
+        λ h. operator_on font Postfixes (after_postfix font p k) x Radian at ps h,
+      )
 
   gap_same : (at : ℕ) (x : Found) (p : Pending) (fs : List Frame) (ps : List Piece) (v : Found) → after_primary font p (ends_in font fs v) x (piece Gap at ∷ ps) ↔ after_primary font p (ends_in font fs v) x ps
   gap_same at x p fs ps v = (λ h. pass_primary font p (ends_in font fs v) (pass_ends font fs v) x (piece Gap at ∷ ps) ps refl h, λ h. pass_primary font p (ends_in font fs v) (pass_ends font fs v) x ps (piece Gap at ∷ ps) refl h)

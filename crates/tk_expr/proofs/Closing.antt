@@ -1,5 +1,5 @@
 -- Each state has a text that completes it: operands where they are wanted, and the ends of all that is open.
-use Rattle.std.proofs.Common.{◌≡◌, ◌⊎◌, inl, inr, ℕ, nat_lt, Bool, true, false, List, [], ◌∷◌, Option, Some, None, Ok, refl}
+use Rattle.std.proofs.Common.{◌≡◌, inl, ℕ, true, List, [], ◌∷◌, Some, Ok, refl}
 use Rattle.tk_num.specs.declared.unit.Unit.TheVariants as units
 use Rattle.tk_expr.specs.declared.FontUnits.{FontUnits}
 use Rattle.tk_expr.specs.declared.pieces.Mark.{Mark}
@@ -16,7 +16,7 @@ use Rattle.tk_expr.specs.Number.{Decimal, no_digits, with_digit}
 use Rattle.tk_expr.specs.Values.{pi_value}
 use Rattle.tk_expr.specs.Grammar.{piece}
 use Rattle.tk_expr.specs.Machine.{Found, State, disjoined, choice_found, one_found, two_found, most_found}
-use Rattle.tk_expr.proofs.Readings.{decimal_found, Whole, whole, unasked, group, primary_part, postfix_part, prefixed_part, product_part, sum_part, comparison_part, conjunction_part, stays, no_sign_before, of_pi, no_further, one_further}
+use Rattle.tk_expr.proofs.Readings.{decimal_found, Whole, whole, unasked, group, primary_part, postfix_part, prefixed_part, product_part, sum_part, comparison_part, conjunction_part, stays, no_sign_before, of_pi, no_further}
 use Rattle.tk_expr.proofs.Continuations.{Behind, Via, after_primary, wants, closes, in_bracket, ends_in, in_number, in_mode, Completes}
 use Rattle.tk_expr.proofs.Levels.{to_end, Tidy, wants_primary}
 

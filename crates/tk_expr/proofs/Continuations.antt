@@ -1,7 +1,6 @@
 -- How a text goes on behind an operand, with what waits for it and what is open.
-use Rattle.std.proofs.Common.{◌≡◌, ◌⊎◌, ℕ, nat_lt, Bool, true, false, List, [], ◌∷◌, Option, Some, None, Ok}
+use Rattle.std.proofs.Common.{◌≡◌, ◌⊎◌, ℕ, nat_lt, true, List, [], ◌∷◌, Option, Some, None}
 use Rattle.tk_expr.specs.declared.FontUnits.{FontUnits}
-use Rattle.tk_expr.specs.declared.pieces.Most.{Most}
 use Rattle.tk_expr.specs.declared.pieces.Mark.{Mark}
 use Rattle.tk_expr.specs.declared.pieces.Mark.TheVariants.{Digit, Equals, Colon, Comma, Left, Right}
 use Rattle.tk_expr.specs.declared.pieces.Piece.{Piece}
@@ -16,7 +15,7 @@ use Rattle.tk_expr.specs.declared.machine.Mode.TheVariants.{Wanted, Ordered, Hal
 use Rattle.tk_expr.specs.Number.{Decimal, no_digits, with_digit}
 use Rattle.tk_expr.specs.Grammar.{piece, skip, after_decimal, next_unit, after_unit, Postfixes, Powers, Products, Sums, Comparisons, Conjunctions, Disjunctions, Begins}
 use Rattle.tk_expr.specs.Machine.{Found, State, signed_found, applied, powered, waiting_or_same, choice_found, one_found, two_found, most_found}
-use Rattle.tk_expr.proofs.Readings.{decimal_from, decimal_found, Whole, Asks, Part, Goes, Prefixed, Exponential, Primary, Further}
+use Rattle.tk_expr.proofs.Readings.{decimal_from, decimal_found, Whole, Asks, Part, Goes, Exponential, Further}
 
 -- what is behind a value: a statement about it and the pieces that are left
 abbrev pub Behind : Type 1

@@ -1,7 +1,6 @@
 -- The marks that end an expression: `)`, `,` and `:`.
-use Rattle.std.proofs.Common.{◌≡◌, ◌⊎◌, ◌↔◌, inl, inr, ℕ, suc, ◌≤◌, Bool, true, false, true≢false, List, [], ◌∷◌, length, Option, Some, None, Ok, refl, sym, ap, subst, ◌∙◌, arith}
-use Rattle.tk_token.specs.declared.Code.TheVariants.{Expression}
-use Rattle.tk_token.specs.Answers.{Answer, fault}
+use Rattle.std.proofs.Common.{◌≡◌, ◌↔◌, inr, ℕ, Bool, true, false, true≢false, List, [], ◌∷◌, Option, Some, None, refl, sym, subst, ◌∙◌, arith}
+use Rattle.tk_token.specs.Answers.{Answer}
 use Rattle.tk_expr.specs.declared.FontUnits.{FontUnits}
 use Rattle.tk_expr.specs.declared.pieces.Most.{Most}
 use Rattle.tk_expr.specs.declared.pieces.Mark.{Mark}
@@ -12,16 +11,15 @@ use Rattle.tk_expr.specs.declared.machine.Bracket.{Bracket}
 use Rattle.tk_expr.specs.declared.machine.Bracket.TheVariants.{Plain, Only, First, Second, Each}
 use Rattle.tk_expr.specs.declared.machine.Frame.{Frame}
 use Rattle.tk_expr.specs.declared.machine.Frame.TheVariants.{Inside, Then, Else}
-use Rattle.tk_expr.specs.Evaluates.{is_unit}
 use Rattle.tk_expr.specs.Faults.{Opener, Parenthesis, Call, Asked, Answered, name_behind, open_behind}
-use Rattle.tk_expr.specs.Grammar.{piece, skip, Begins}
-use Rattle.tk_expr.specs.Machine.{Found, State, nothing, closed, choice_found, wanted_in, outside, one_found, two_found, most_found, bracket_ends, right, bracket_goes_on, comma, colon}
+use Rattle.tk_expr.specs.Grammar.{piece, Begins}
+use Rattle.tk_expr.specs.Machine.{Found, State, closed, choice_found, wanted_in, outside, one_found, two_found, most_found, bracket_ends, right, bracket_goes_on, comma, colon}
 use Rattle.tk_expr.proofs.Readings.{Whole, Further, no_further, one_further}
-use Rattle.tk_expr.proofs.Continuations.{Behind, Via, after_primary, closes, in_bracket, ends_in, Completes}
+use Rattle.tk_expr.proofs.Continuations.{Behind, Via, after_primary, closes, in_bracket, ends_in}
 use Rattle.tk_expr.proofs.Closing.{right_fits, comma_fits}
 use Rattle.tk_expr.proofs.Fronts.{is_gap, front_to, front_from}
-use Rattle.tk_expr.proofs.Levels.{Tidy, fresh_whole, end_of_list}
-use Rattle.tk_expr.proofs.Outcomes.{IsPlain, CalledAt, FrameOpens, Opens, NamedAt, Ahead, NoMiscount, Miscounts, Valid, FramesTidy, Kept, SureIs, steps, refuses, miscounts}
+use Rattle.tk_expr.proofs.Levels.{fresh_whole, end_of_list}
+use Rattle.tk_expr.proofs.Outcomes.{IsPlain, CalledAt, Opens, NamedAt, Ahead, NoMiscount, Miscounts, FramesTidy, Kept, SureIs, steps, refuses, miscounts}
 
 module _ (font : FontUnits) where
   -- ---- what a bracket says of its mark

@@ -1,11 +1,11 @@
 -- Where the pieces run out.
-use Rattle.std.proofs.Common.{◌≡◌, ◌⊎◌, ◌↔◌, inl, inr, ℕ, Bool, true, false, true≢false, List, [], ◌∷◌, is_some, Option, Some, None, Ok, Err, refl, sym, ap, ap₂, subst, ◌∙◌}
+use Rattle.std.proofs.Common.{◌≡◌, ◌↔◌, inl, inr, ℕ, Bool, true, false, true≢false, List, [], ◌∷◌, Option, Some, None, refl, sym, ap, subst, ◌∙◌}
 use Rattle.tk_token.specs.declared.Code.TheVariants.{Expression}
-use Rattle.tk_token.specs.Answers.{Answer, ◌>>=◌, fault}
+use Rattle.tk_token.specs.Answers.{Answer, fault}
 use Rattle.tk_expr.specs.declared.FontUnits.{FontUnits}
 use Rattle.tk_expr.specs.declared.Value.{Value}
 use Rattle.tk_expr.specs.declared.operators.Operator.{Operator}
-use Rattle.tk_expr.specs.declared.operators.Operator.TheVariants.{Raise, Same as Equal, Differs, AtMost, AtLeast, Both, Either}
+use Rattle.tk_expr.specs.declared.operators.Operator.TheVariants.{Same as Equal, Differs, AtMost, AtLeast, Both, Either}
 use Rattle.tk_expr.specs.declared.pieces.Most.{Most}
 use Rattle.tk_expr.specs.declared.pieces.Piece.{Piece}
 use Rattle.tk_expr.specs.declared.machine.Waiting.{Waiting}
@@ -20,7 +20,7 @@ use Rattle.tk_expr.specs.Evaluates.{valued}
 use Rattle.tk_expr.specs.Grammar.{Level, Products, Stands}
 use Rattle.tk_expr.specs.Machine.{Found, State, applied, powered, multiplied, added, compared, conjoined, disjoined, closed, choice_found, operand, value_in, finish_behind, finish}
 use Rattle.tk_expr.specs.Number.{plain_value}
-use Rattle.tk_expr.proofs.Readings.{Asks, unasked, asked, Group, group, Part, primary_part, postfix_part, prefixed_part, Goes, stays, on_unit, on_radians, on_power, on_operator, on_comparison, Prefixed, sign_before, no_sign_before, Exponential, exponent_sign_before, bare_exponent, Primary, of_digits, of_point, of_parenthesis, of_pi, of_one, of_two, of_most, Further, no_further, one_further}
+use Rattle.tk_expr.proofs.Readings.{Asks, unasked, asked, group, Part, primary_part, postfix_part, prefixed_part, Goes, stays, on_unit, on_radians, on_power, on_operator, on_comparison, Prefixed, sign_before, no_sign_before, Exponential, exponent_sign_before, bare_exponent, Primary, of_digits, of_point, of_parenthesis, of_pi, of_one, of_two, of_most, Further, no_further, one_further}
 use Rattle.tk_expr.proofs.Continuations.{Behind, Via, after_disjunction, after_conjunction, after_comparison, comparing, after_sum, after_product, after_signed, after_postfix, after_primary, wants, in_bracket, ends_in, in_mode, Completes}
 use Rattle.tk_expr.proofs.Levels.{to_end}
 use Rattle.tk_expr.proofs.Steps.{some_not_none, same_some}

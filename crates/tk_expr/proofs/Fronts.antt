@@ -1,22 +1,17 @@
 -- What the piece in front of a text tells of it.
-use Rattle.std.proofs.Common.{◌≡◌, ◌⊎◌, inl, inr, ℕ, nat_lt, Bool, true, false, true≢false, List, [], ◌∷◌, Option, Some, None, Ok, refl, sym, ap, ap₂, subst, subst₂, ◌∙◌}
-use Rattle.tk_num.specs.declared.unit.Unit.{Unit as AUnit}
+use Rattle.std.proofs.Common.{◌≡◌, ◌⊎◌, inl, inr, ℕ, nat_lt, Bool, true, false, true≢false, List, [], ◌∷◌, None, Ok, refl, sym, ap, subst, ◌∙◌}
 use Rattle.tk_expr.specs.declared.FontUnits.{FontUnits}
 use Rattle.tk_expr.specs.declared.operators.Operator.{Operator}
 use Rattle.tk_expr.specs.declared.operators.Operator.TheVariants.{Raise, Multiply, Divide, Add, Subtract, Same, Differs, AtMost, AtLeast, Below, Above, Both, Either}
-use Rattle.tk_expr.specs.declared.operators.Prefix.{Prefix}
-use Rattle.tk_expr.specs.declared.pieces.One.{One}
-use Rattle.tk_expr.specs.declared.pieces.Two.{Two}
-use Rattle.tk_expr.specs.declared.pieces.Most.{Most}
 use Rattle.tk_expr.specs.declared.pieces.Mark.{Mark}
-use Rattle.tk_expr.specs.declared.pieces.Mark.TheVariants.{Digit, Point, Measure, Radian, Pi, Single, Double, Several, Plus, Minus, Star, Slash, Caret, Bar, Ampersand, Equals, Bang, Less, Greater, Question, Colon, Comma, Left, Right, Gap}
+use Rattle.tk_expr.specs.declared.pieces.Mark.TheVariants.{Digit, Point, Measure, Radian, Pi, Single, Double, Several, Plus, Minus, Star, Slash, Caret, Bar, Ampersand, Equals, Bang, Less, Greater, Question, Colon, Left, Gap}
 use Rattle.tk_expr.specs.declared.pieces.Piece.{Piece}
 use Rattle.tk_expr.specs.declared.machine.Bracket.TheVariants.{Plain, Only, First, Each}
-use Rattle.tk_expr.specs.Number.{Decimal, no_digits, with_digit}
+use Rattle.tk_expr.specs.Number.{no_digits, with_digit}
 use Rattle.tk_expr.specs.Values.{pi_value}
-use Rattle.tk_expr.specs.Grammar.{piece, skip, past_gap, prefix_of, exponent_sign, Level, Postfixes, Powers, Products, Sums, Comparisons, Conjunctions, Disjunctions, level_of, is_chain, Begins, Stands}
+use Rattle.tk_expr.specs.Grammar.{piece, skip, past_gap, Level, Postfixes, Powers, Products, Sums, Comparisons, Conjunctions, Disjunctions, level_of, is_chain, Begins, Stands}
 use Rattle.tk_expr.specs.Machine.{Found, applied, waiting, choice_found}
-use Rattle.tk_expr.proofs.Readings.{unit_found, radians_found, prefixed_found, Whole, Asks, unasked, asked, Group, group, Part, primary_part, postfix_part, prefixed_part, Goes, stays, on_unit, on_radians, on_power, on_operator, on_comparison, Prefixed, sign_before, no_sign_before, Exponential, exponent_sign_before, bare_exponent, Primary, of_digits, of_point, of_parenthesis, of_pi, of_one, of_two, of_most}
+use Rattle.tk_expr.proofs.Readings.{unit_found, radians_found, Whole, Asks, unasked, asked, Part, Goes, stays, on_unit, on_radians, on_power, on_operator, on_comparison, Exponential, Primary, of_digits, of_point, of_parenthesis, of_pi, of_one, of_two, of_most}
 use Rattle.tk_expr.proofs.Continuations.{Behind, Via, in_bracket, in_number, in_dot, in_name}
 
 -- ---- the piece in front

@@ -1,11 +1,9 @@
 -- A gap in front changes nothing.
-use Rattle.std.proofs.Common.{◌≡◌, ◌⊎◌, ◌↔◌, inl, inr, ℕ, Bool, true, false, List, [], ◌∷◌, Option, Some, None, refl, sym, ap, subst, ◌∙◌}
+use Rattle.std.proofs.Common.{◌≡◌, ℕ, List, [], ◌∷◌, Option, Some, None, sym, ◌∙◌}
 use Rattle.tk_expr.specs.declared.FontUnits.{FontUnits}
 use Rattle.tk_expr.specs.declared.operators.Operator.{Operator}
 use Rattle.tk_expr.specs.declared.operators.Operator.TheVariants.{Raise, Same, Differs, AtMost, AtLeast, Both, Either}
 use Rattle.tk_expr.specs.declared.pieces.Most.{Most}
-use Rattle.tk_expr.specs.declared.pieces.Mark.{Mark}
-use Rattle.tk_expr.specs.declared.pieces.Mark.TheVariants.{Gap}
 use Rattle.tk_expr.specs.declared.pieces.Piece.{Piece}
 use Rattle.tk_expr.specs.declared.machine.Waiting.{Waiting}
 use Rattle.tk_expr.specs.declared.machine.Pending.{Pending}
@@ -13,10 +11,10 @@ use Rattle.tk_expr.specs.declared.machine.Bracket.{Bracket}
 use Rattle.tk_expr.specs.declared.machine.Bracket.TheVariants.{Plain, Only, First, Second, Each}
 use Rattle.tk_expr.specs.declared.machine.Frame.{Frame}
 use Rattle.tk_expr.specs.declared.machine.Frame.TheVariants.{Inside, Then, Else}
-use Rattle.tk_expr.specs.Grammar.{piece, skip, Level, Postfixes, Powers, Products, Sums, Comparisons, Conjunctions, Disjunctions, Stands}
-use Rattle.tk_expr.specs.Machine.{Found, applied, powered, choice_found, most_found}
-use Rattle.tk_expr.proofs.Readings.{Whole, Asks, unasked, asked, Group, group, Part, primary_part, postfix_part, prefixed_part, Goes, stays, on_unit, on_radians, on_power, on_operator, on_comparison, Prefixed, sign_before, no_sign_before, Exponential, exponent_sign_before, bare_exponent, Primary, of_digits, of_point, of_parenthesis, of_pi, of_one, of_two, of_most, Further, no_further, one_further}
-use Rattle.tk_expr.proofs.Continuations.{Behind, Via, after_disjunction, after_conjunction, after_comparison, comparing, after_sum, after_product, after_unsigned, after_signed, after_postfix, after_primary, wants, in_bracket, ends_in}
+use Rattle.tk_expr.specs.Grammar.{skip, Level, Products, Stands}
+use Rattle.tk_expr.specs.Machine.{Found, applied, choice_found}
+use Rattle.tk_expr.proofs.Readings.{Asks, unasked, asked, group, Part, primary_part, postfix_part, prefixed_part, Goes, stays, on_unit, on_radians, on_power, on_operator, on_comparison, Prefixed, sign_before, no_sign_before, Exponential, exponent_sign_before, bare_exponent, Primary, of_digits, of_point, of_parenthesis, of_pi, of_one, of_two, of_most, Further, no_further, one_further}
+use Rattle.tk_expr.proofs.Continuations.{Behind, Via, after_disjunction, after_conjunction, after_comparison, comparing, after_sum, after_product, after_signed, after_postfix, after_primary, wants, in_bracket, ends_in}
 
 -- the two texts are one behind the gaps in front
 abbrev pub Alike : List Piece → List Piece → Type 0

@@ -1,5 +1,5 @@
 -- Levels one by one: a mark that is no operator of a level passes it, and what waits on it is settled.
-use Rattle.std.proofs.Common.{◌≡◌, ◌⊎◌, ◌↔◌, inl, inr, ℕ, Bool, true, false, true≢false, List, [], ◌∷◌, Option, Some, None, Ok, refl, sym, ap, ap₂, subst, ◌∙◌}
+use Rattle.std.proofs.Common.{◌≡◌, ◌⊎◌, ◌↔◌, inl, inr, ℕ, Bool, true, false, true≢false, List, [], ◌∷◌, Option, Some, None, refl, sym, ap, ap₂, subst, ◌∙◌}
 use Rattle.tk_expr.specs.declared.FontUnits.{FontUnits}
 use Rattle.tk_expr.specs.declared.operators.Prefix.{Prefix}
 use Rattle.tk_expr.specs.declared.operators.Signs.{Signs}
@@ -14,8 +14,8 @@ use Rattle.tk_expr.specs.declared.machine.Bracket.TheVariants.{Plain, Only, Firs
 use Rattle.tk_expr.specs.declared.machine.Frame.{Frame}
 use Rattle.tk_expr.specs.declared.machine.Frame.TheVariants.{Inside, Then, Else}
 use Rattle.tk_expr.specs.Grammar.{piece, skip, past_gap, prefix_of, exponent_sign, Level, Postfixes, Powers, Products, Sums, Comparisons, Conjunctions, Disjunctions, Begins}
-use Rattle.tk_expr.specs.Machine.{Found, no_signs, nothing, with_prefix, signed_found, applied, powered, multiplied, added, compared, conjoined, disjoined, choice_found, most_found}
-use Rattle.tk_expr.proofs.Readings.{prefixed_found, Whole, whole, Asks, unasked, Group, group, Part, primary_part, postfix_part, prefixed_part, product_part, sum_part, comparison_part, conjunction_part, Goes, stays, Prefixed, sign_before, no_sign_before, Exponential, exponent_sign_before, bare_exponent, Primary, Further, no_further, one_further}
+use Rattle.tk_expr.specs.Machine.{Found, no_signs, nothing, with_prefix, signed_found, applied, powered, multiplied, added, compared, conjoined, disjoined, choice_found}
+use Rattle.tk_expr.proofs.Readings.{prefixed_found, Whole, whole, unasked, group, Part, primary_part, postfix_part, prefixed_part, product_part, sum_part, comparison_part, conjunction_part, Goes, stays, sign_before, no_sign_before, Exponential, exponent_sign_before, bare_exponent, Primary, Further, no_further, one_further}
 use Rattle.tk_expr.proofs.Continuations.{Behind, Via, after_disjunction, after_conjunction, after_comparison, comparing, after_sum, after_product, after_unsigned, after_signed, after_postfix, after_primary, wants, closes, in_bracket, ends_in}
 use Rattle.tk_expr.proofs.Fronts.{is_gap, past_solid, front_to, OperatorAt, operator_in, ChoiceAt, choice_in}
 use Rattle.tk_expr.proofs.SignRuns.{signed_none, signs_more}

@@ -1,5 +1,5 @@
 -- Tokens have one answer.
-use Rattle.std.proofs.Common.{◌≡◌, ◌⊎◌, inl, inr, ℕ, suc, ◌≤◌, Bool, List, [], ◌∷◌, ◌++◌, length, drop, Ok, refl, sym, ap, ap₂, subst, ◌∙◌, arith, append_assoc, append-nil}
+use Rattle.std.proofs.Common.{◌≡◌, ℕ, List, [], ◌∷◌, ◌++◌, drop, refl, sym, ap, ap₂, subst, ◌∙◌, arith, append_assoc, append-nil}
 use Rattle.tk_token.specs.declared.Code.TheVariants.{TooDeep, Expression}
 use Rattle.tk_token.specs.Answers.{Answer, fault}
 use Rattle.tk_token.specs.Token.{Token}

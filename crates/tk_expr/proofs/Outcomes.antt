@@ -1,5 +1,5 @@
 -- What a step of the machine tells of the texts that begin so.
-use Rattle.std.proofs.Common.{◌≡◌, ◌⊎◌, ◌↔◌, inl, inr, ℕ, suc, ◌≤◌, Bool, true, false, ◌||◌, nat_lt, List, [], ◌∷◌, length, Option, Some, None, Ok}
+use Rattle.std.proofs.Common.{◌≡◌, ◌⊎◌, ◌↔◌, inl, inr, ℕ, suc, ◌≤◌, Bool, true, ◌||◌, nat_lt, List, [], ◌∷◌, length, Option, Some, None, Ok}
 use Rattle.tk_token.specs.declared.Code.TheVariants.{TooDeep, Expression}
 use Rattle.tk_token.specs.Answers.{Answer, fault}
 use Rattle.tk_expr.specs.declared.FontUnits.{FontUnits}
@@ -11,7 +11,7 @@ use Rattle.tk_expr.specs.declared.machine.Bracket.TheVariants.{Plain, Only, Firs
 use Rattle.tk_expr.specs.declared.machine.Frame.{Frame}
 use Rattle.tk_expr.specs.declared.machine.Frame.TheVariants.{Inside, Then, Else}
 use Rattle.tk_expr.specs.declared.machine.Mode.{Mode}
-use Rattle.tk_expr.specs.declared.machine.Mode.TheVariants.{Wanted, Named}
+use Rattle.tk_expr.specs.declared.machine.Mode.TheVariants.{Named}
 use Rattle.tk_expr.specs.Evaluates.{is_unit}
 use Rattle.tk_expr.specs.Faults.{Opener, Parenthesis, Call, Asked, Answered, name_behind, open_behind}
 use Rattle.tk_expr.specs.Machine.{Found, State}

@@ -1,15 +1,14 @@
 -- The digits of tokens' pieces are below ten.
-use Rattle.std.proofs.Common.{◌≡◌, ℕ, suc, ◌-◌, ◌<◌, ◌≤◌, ◌==◌, Bool, true, false, cond, List, [], ◌∷◌, map, refl, sym, ap, subst, arith, lt-ltb}
+use Rattle.std.proofs.Common.{◌≡◌, ℕ, ◌-◌, ◌==◌, Bool, true, false, cond, List, [], ◌∷◌, map, refl, arith, lt-ltb}
 use Rattle.std.specs.Char.{is_ascii_digit}
 use Rattle.std.specs.List.{AllByRecursion}
 use Rattle.std.specs.Str.{bytes_eq}
 use Rattle.tk_num.proofs.Digits.{digit_bounds}
-use Rattle.tk_token.specs.Cutting.{is_letter}
-use Rattle.tk_token.specs.Token.{Sign, A_char, A_word, A_symbol, Opens, Closes, A_space, Token}
+use Rattle.tk_token.specs.Token.{Sign, A_char, Opens, Closes, A_space, Token}
 use Rattle.tk_expr.specs.declared.pieces.Mark.{Mark}
-use Rattle.tk_expr.specs.declared.pieces.Mark.TheVariants.{Digit, Word, Other}
+use Rattle.tk_expr.specs.declared.pieces.Mark.TheVariants.{Digit}
 use Rattle.tk_expr.specs.declared.pieces.Piece.{Piece}
-use Rattle.tk_expr.specs.Pieces.{Row, rows, mark_in, word_mark, sign_in, signs, char_mark, mark_of, Lump, Run, Alone, with_letter, with_sign, lumps_of, piece_of, pieces_of}
+use Rattle.tk_expr.specs.Pieces.{Row, rows, mark_in, word_mark, sign_in, signs, char_mark, mark_of, Lump, Run, Alone, lumps_of, piece_of, pieces_of}
 use Rattle.tk_expr.proofs.Outcomes.{Proper}
 
 abbrev pub AllProper : List Piece → Type 0

@@ -1,7 +1,7 @@
 -- The grammar over values in place of trees: what stands in a text, with what it comes to.
-use Rattle.std.proofs.Common.{◌≡◌, ℕ, ◌+◌, Bool, true, false, cond, nat_lt, List, [], ◌∷◌, Option, Some, None, Ok}
+use Rattle.std.proofs.Common.{◌≡◌, ℕ, true, false, cond, nat_lt, List, [], ◌∷◌, Option, Some, None, Ok}
 use Rattle.tk_num.specs.declared.unit.Unit.{Unit as AUnit}
-use Rattle.tk_token.specs.Answers.{Answer, ◌>>=◌}
+use Rattle.tk_token.specs.Answers.{◌>>=◌}
 use Rattle.tk_expr.specs.declared.FontUnits.{FontUnits}
 use Rattle.tk_expr.specs.declared.operators.Operator.{Operator}
 use Rattle.tk_expr.specs.declared.operators.Operator.TheVariants.{Raise}

@@ -1,8 +1,6 @@
 -- What the machine comes to is the answer.
-use Rattle.std.proofs.Common.{◌≡◌, ◌⊎◌, ◌↔◌, inl, inr, ℕ, zero, suc, ◌≤◌, Bool, true, false, ◌||◌, List, [], ◌∷◌, ◌++◌, length, drop, Option, Some, None, Result, Ok, Err, refl, sym, ap, ap₂, subst, ◌∙◌, arith, append_assoc, append-nil, zero-le}
-use Rattle.std.specs.List.{AllByRecursion, list_any}
-use Rattle.tk_token.specs.declared.Code.TheVariants.{TooDeep, Expression}
-use Rattle.tk_token.specs.Answers.{Answer, ◌>>=◌, fault}
+use Rattle.std.proofs.Common.{◌≡◌, ◌⊎◌, ◌↔◌, inl, inr, ℕ, suc, ◌≤◌, Bool, true, false, ◌||◌, List, [], ◌∷◌, ◌++◌, length, drop, Option, None, refl, sym, ap, ap₂, subst, ◌∙◌, arith, append_assoc, append-nil, zero-le}
+use Rattle.tk_token.specs.Answers.{Answer, ◌>>=◌}
 use Rattle.tk_token.specs.Token.{Token}
 use Rattle.tk_expr.specs.declared.FontUnits.{FontUnits}
 use Rattle.tk_expr.specs.declared.Value.{Value}
@@ -14,20 +12,19 @@ use Rattle.tk_expr.specs.declared.machine.Bracket.TheVariants.{Plain, Only, Firs
 use Rattle.tk_expr.specs.declared.machine.Frame.{Frame}
 use Rattle.tk_expr.specs.declared.machine.Frame.TheVariants.{Inside, Then, Else}
 use Rattle.tk_expr.specs.Tree.{Tree, value}
-use Rattle.tk_expr.specs.Grammar.{piece, skip, IsText}
+use Rattle.tk_expr.specs.Grammar.{piece, IsText}
 use Rattle.tk_expr.specs.Faults.{IsBeginning, Opener, Parenthesis, Call, Asked, Answered, unanswered, name_behind, open_behind, open_from, open_in, IsShallow, IsMiscount, too_many, too_few}
 use Rattle.tk_expr.specs.Evaluates.{is_unit, has_unit, valued, IsMisfit, IsTooDeep, Answers, evaluates, misfit, miscount, too_deep, ends, Evaluates}
 use Rattle.tk_expr.specs.Evaluated.{end_of, evaluated}
 use Rattle.tk_expr.specs.Pieces.{pieces_of}
 use Rattle.tk_expr.specs.Machine.{Found, State, start, step, run, finish}
 use Rattle.tk_expr.proofs.Closing.{completes}
-use Rattle.tk_expr.proofs.Continuations.{Behind, Via, ends_in, in_mode, Completes}
+use Rattle.tk_expr.proofs.Continuations.{ends_in, in_mode, Completes}
 use Rattle.tk_expr.proofs.Finishing.{FinishIs, finds, lacks, finish_is, one_value}
 use Rattle.tk_expr.proofs.Levels.{fresh_whole}
-use Rattle.tk_expr.proofs.Outcomes.{IsPlain, CalledAt, Called, FrameOpens, Opens, NamedAt, NoCall, InCall, Ahead, NoMiscount, Miscounts, Proper, Valid, FramesTidy, Kept, SureIs, steps, refuses, miscounts, StepIs, sure, deep, Same}
+use Rattle.tk_expr.proofs.Outcomes.{IsPlain, CalledAt, Called, Opens, NamedAt, NoCall, InCall, Ahead, NoMiscount, Miscounts, Valid, Kept, SureIs, steps, refuses, miscounts, StepIs, sure, deep, Same}
 use Rattle.tk_expr.proofs.ProperPieces.{AllProper, proper}
-use Rattle.tk_expr.proofs.Readings.{Whole}
-use Rattle.tk_expr.proofs.Steps.{ModeIs, step_is}
+use Rattle.tk_expr.proofs.Steps.{step_is}
 use Rattle.tk_expr.proofs.Trees.{read_expression, tell_whole}
 
 -- ---- openers

@@ -1,14 +1,13 @@
 -- Signs that wait are a run of signs in one value.
-use Rattle.std.proofs.Common.{◌≡◌, ℕ, zero, suc, Bool, true, false, not, ◌==◌, Option, Some, None, Ok, Err, ℤ, pos, negsuc, neg_ℤ, unsigned_abs, refl, sym, ap, ap₂, subst, ◌∙◌}
+use Rattle.std.proofs.Common.{◌≡◌, ℕ, zero, suc, Bool, true, false, not, ◌==◌, Ok, Err, ℤ, pos, negsuc, neg_ℤ, unsigned_abs, refl, sym, ap, ◌∙◌}
 use Rattle.std.proofs.Math.IntN.{neg_ℤ-neg_ℤ}
-use Rattle.tk_token.specs.Answers.{Answer, ◌>>=◌}
 use Rattle.tk_expr.specs.declared.operators.Prefix.{Prefix}
 use Rattle.tk_expr.specs.declared.operators.Prefix.TheVariants.{Negate, Keep, Not}
 use Rattle.tk_expr.specs.declared.operators.Truth.{Truth}
 use Rattle.tk_expr.specs.declared.operators.Truth.TheVariants.{Itself, Affirmed, Denied}
 use Rattle.tk_expr.specs.declared.operators.Signs.{Signs}
 use Rattle.tk_expr.specs.Values.{truth, is_true, prefixed}
-use Rattle.tk_expr.specs.Machine.{Found, no_signs, with_prefix, as_truth, signed_by, signed_found}
+use Rattle.tk_expr.specs.Machine.{Found, no_signs, with_prefix, signed_by, signed_found}
 use Rattle.tk_expr.proofs.Readings.{prefixed_found}
 
 pub signed_none : (x : Found) → signed_found no_signs x ≡ x

@@ -1,37 +1,37 @@
 -- One piece in any state.
-use Rattle.std.proofs.Common.{◌≡◌, ◌⊎◌, ◌↔◌, inl, inr, ℕ, suc, ◌≤◌, Bool, true, false, cond, true≢false, nat_lt, List, [], ◌∷◌, length, is_some, Option, Some, None, Ok, refl, sym, ap, ap₂, subst, ◌∙◌, ◌||◌}
+use Rattle.std.proofs.Common.{◌≡◌, ◌⊎◌, ◌↔◌, inl, inr, ℕ, Bool, true, false, cond, true≢false, nat_lt, List, [], ◌∷◌, is_some, Option, Some, None, Ok, refl, sym, ap, subst, ◌∙◌}
 use Rattle.tk_num.specs.declared.unit.Unit.{Unit as AUnit}
-use Rattle.tk_token.specs.declared.Code.TheVariants.{TooDeep, Expression}
+use Rattle.tk_token.specs.declared.Code.TheVariants.{Expression}
 use Rattle.tk_token.specs.Answers.{Answer, fault}
 use Rattle.tk_expr.specs.declared.FontUnits.{FontUnits}
 use Rattle.tk_expr.specs.declared.operators.Prefix.{Prefix}
 use Rattle.tk_expr.specs.declared.operators.Prefix.TheVariants.{Negate, Keep, Not}
 use Rattle.tk_expr.specs.declared.pieces.Mark.{Mark}
-use Rattle.tk_expr.specs.declared.pieces.Mark.TheVariants.{Digit, Point, Measure, Radian, Pi, Single, Double, Several, Word, Plus, Minus, Star, Slash, Caret, Bar, Ampersand, Equals, Bang, Less, Greater, Question, Colon, Comma, Left, Right, Gap, Other}
+use Rattle.tk_expr.specs.declared.pieces.Mark.TheVariants.{Digit, Point, Measure, Pi, Single, Double, Several, Plus, Minus, Bar, Ampersand, Equals, Bang, Comma, Left, Right, Gap}
 use Rattle.tk_expr.specs.declared.pieces.Piece.{Piece}
 use Rattle.tk_expr.specs.declared.machine.Waiting.{Waiting}
 use Rattle.tk_expr.specs.declared.machine.Pending.{Pending}
 use Rattle.tk_expr.specs.declared.machine.Bracket.{Bracket}
-use Rattle.tk_expr.specs.declared.machine.Bracket.TheVariants.{Plain, Only, First, Second, Each}
+use Rattle.tk_expr.specs.declared.machine.Bracket.TheVariants.{Plain, Only, First, Each}
 use Rattle.tk_expr.specs.declared.machine.Frame.{Frame}
-use Rattle.tk_expr.specs.declared.machine.Frame.TheVariants.{Inside, Then, Else}
+use Rattle.tk_expr.specs.declared.machine.Frame.TheVariants.{Inside}
 use Rattle.tk_expr.specs.declared.machine.Mode.{Mode}
 use Rattle.tk_expr.specs.declared.machine.Mode.TheVariants.{Wanted, Ordered, Half, Named, Dot, Number, Measured, After}
 use Rattle.tk_expr.specs.Evaluates.{is_unit}
-use Rattle.tk_expr.specs.Faults.{Opener, Parenthesis, Call, Asked, Answered, opener_behind, name_behind, open_behind}
+use Rattle.tk_expr.specs.Faults.{Opener, opener_behind, name_behind, open_behind}
 use Rattle.tk_expr.specs.Number.{Decimal, no_digits, with_digit, with_point, plain_value, unit_value}
 use Rattle.tk_expr.specs.Values.{pi_value}
-use Rattle.tk_expr.specs.Grammar.{piece, skip, next_unit, after_decimal, after_unit, past_unit, prefix_of, exponent_sign, Begins}
-use Rattle.tk_expr.specs.Machine.{Found, State, no_signs, nothing, with_prefix, waiting_or_same, wanted_in, opened, to_mode, sign_exponent, sign_operand, begin, ordered, is_half, half, named, dot, measured, number, step_in, step}
-use Rattle.tk_expr.proofs.Readings.{decimal_from, decimal_found, Whole, Part, Primary, Exponential}
+use Rattle.tk_expr.specs.Grammar.{piece, skip, next_unit, after_unit, past_unit, prefix_of, exponent_sign}
+use Rattle.tk_expr.specs.Machine.{Found, State, with_prefix, wanted_in, to_mode, sign_operand, begin, ordered, is_half, half, named, dot, measured, number, step_in, step}
+use Rattle.tk_expr.proofs.Readings.{decimal_from, decimal_found, Whole, Primary}
 use Rattle.tk_expr.proofs.Continuations.{Behind, Via, after_primary, wants, in_bracket, ends_in, in_number, in_dot, in_name, directly, or_same_waits, in_mode, Completes}
 use Rattle.tk_expr.proofs.Closing.{HalfMark, HalfMode}
 use Rattle.tk_expr.proofs.Ends.{Unnamed}
 use Rattle.tk_expr.proofs.Fronts.{is_gap, front_to, front_from, PrimaryAt, primary_in, primary_on}
 use Rattle.tk_expr.proofs.Gaps.{wants_alike, pass_primary, pass_ends}
 use Rattle.tk_expr.proofs.Levels.{only_left, fresh_whole, Tidy, SignAt, wants_or, wants_primary, sign_on, sign_off, exponent_on, exponent_off}
-use Rattle.tk_expr.proofs.Outcomes.{IsPlain, CalledAt, Opens, NamedAt, Ahead, NoMiscount, Proper, Valid, FramesTidy, Kept, SureIs, steps, refuses, StepIs, sure, deep, Same, no_miscount, step_as}
-use Rattle.tk_expr.proofs.Behind.{only_right, kept_mode, opened_is, BehindIs, after_is}
+use Rattle.tk_expr.proofs.Outcomes.{Opens, NamedAt, Ahead, Proper, Valid, FramesTidy, Kept, steps, refuses, StepIs, sure, no_miscount, step_as}
+use Rattle.tk_expr.proofs.Behind.{only_right, kept_mode, opened_is, after_is}
 
 -- no sign
 pub some_not_none : {A : Type 0} {a : A} {o : Option A} → o ≡ None → o ≡ Some a → ⊥
@@ -58,9 +58,10 @@ module _ (font : FontUnits) where
   primary_same : (m : Mark) → is_gap m ≡ false → prefix_of m ≡ None → exponent_sign m ≡ None → (at : ℕ) (s : State) → Tidy font s.pending → (ps : List Piece) (v : Found) → Wants s (piece m at ∷ ps) v ↔ PrimaryAt font (after_primary font s.pending (ends_in font s.frames v)) m at ps
   primary_same m g e f at s t ps v =
       let p = s.pending in
-      let k = ends_in font s.frames v in
-      (λ h. primary_in font m at ps (after_primary font p k) g (only_right (no_sign_at p.power p k m ps e f) (wants_or font p.power p k m at ps g refl t h)),
-      λ h. wants_primary font p.power p k (piece m at ∷ ps) refl t (primary_on font (after_primary font p k) m at ps h))
+      let k = ends_in font s.frames v in (
+        λ h. primary_in font m at ps (after_primary font p k) g (only_right (no_sign_at p.power p k m ps e f) (wants_or font p.power p k m at ps g refl t h)),
+        λ h. wants_primary font p.power p k (piece m at ∷ ps) refl t (primary_on font (after_primary font p k) m at ps h),
+      )
 
   -- a mark that begins no operand
   wants_not : (m : Mark) → is_gap m ≡ false → prefix_of m ≡ None → exponent_sign m ≡ None → IsNoPrimary m → (at : ℕ) (s : State) → Tidy font s.pending → (ps : List Piece) (v : Found) → Wants s (piece m at ∷ ps) v → ⊥

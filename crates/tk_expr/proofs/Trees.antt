@@ -1,6 +1,5 @@
 -- Each tree of a text is a value of it, and each value is that of some tree.
-use Rattle.std.proofs.Common.{◌≡◌, ℕ, List, [], ◌∷◌, Option, Some, None, Ok, refl, sym, ap, ap₂, subst, ◌∙◌}
-use Rattle.tk_token.specs.Answers.{Answer, ◌>>=◌}
+use Rattle.std.proofs.Common.{◌≡◌, List, ◌∷◌, Some, refl, ap, ap₂, ◌∙◌}
 use Rattle.tk_expr.specs.declared.FontUnits.{FontUnits}
 use Rattle.tk_expr.specs.declared.pieces.Mark.TheVariants.{Digit, Point}
 use Rattle.tk_expr.specs.declared.pieces.Most.{Most}
