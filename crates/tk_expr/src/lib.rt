@@ -1,6 +1,7 @@
 //! Expressions: the value of a text in the grammar of TikZ's arithmetic, and the pairs of coordinates.
 #![tactic(auto)]
 
+mod laws;
 mod machine;
 mod number;
 mod operators;
