@@ -23,7 +23,7 @@ use Rattle.tk_expr.specs.Number.{plain_value}
 use Rattle.tk_expr.proofs.Readings.{Asks, unasked, asked, group, Part, primary_part, postfix_part, prefixed_part, Goes, stays, on_unit, on_radians, on_power, on_operator, on_comparison, Prefixed, sign_before, no_sign_before, Exponential, exponent_sign_before, bare_exponent, Primary, of_digits, of_point, of_parenthesis, of_pi, of_one, of_two, of_most, Further, no_further, one_further}
 use Rattle.tk_expr.proofs.Continuations.{Behind, Via, after_disjunction, after_conjunction, after_comparison, comparing, after_sum, after_product, after_signed, after_postfix, after_primary, wants, in_bracket, ends_in, in_mode, Completes}
 use Rattle.tk_expr.proofs.Levels.{to_end}
-use Rattle.tk_expr.proofs.Steps.{some_not_none, same_some}
+use Rattle.tk_expr.proofs.Stepping.{some_not_none, same_some}
 
 -- no piece is there
 no_piece : {p : Piece} {ps : List Piece} → [] ≡ p ∷ ps → ⊥

@@ -1,6 +1,6 @@
--- Where the faults of expressions, pairs and vectors stand: at no place past a bound, where no token does.
-use Rattle.std.proofs.Common.{ℕ, zero, suc, ◌+◌, ◌-◌, ◌*◌, ◌≤◌, Bool, true, false, cond, List, [], ◌∷◌, length, take, drop, map, Option, Some, None, is_some, Result, Ok, Err, IfErr, ℤ, nat_lt}
-use Rattle.std.specs.List.{AllByRecursion, prefix_len}
+-- Where the faults of expressions, pairs and vectors stand: what holds of the places of all tokens holds of theirs.
+use Rattle.std.proofs.Common.{ℕ, zero, suc, ◌+◌, ◌*◌, ◌≤◌, Bool, true, false, cond, List, [], ◌∷◌, length, take, drop, map, Option, Some, None, is_some, unwrap_or, Result, Ok, Err, IfErr, ℤ, nat_lt}
+use Rattle.std.specs.List.{AllByRecursion, prefix_len, list_all}
 use Rattle.tk_num.specs.Number.{scaled, product}
 use Rattle.tk_num.specs.Angle.{sine, cosine}
 use Rattle.tk_num.specs.declared.NumFault.{NumFault}
@@ -35,7 +35,7 @@ use Rattle.tk_expr.specs.Values.{placed}
 use Rattle.tk_expr.specs.Machine.{Found, State, signed_found, applied, powered, multiplied, added, compared, conjoined, disjoined, product_waits, sum_waits, comparison_waits, waits, waiting_or_same, Closed, choice_found, closed, closed_behind, wanted_in, opened, most_found, bracket_ends, right, bracket_goes_on, comma, colon, to_mode, sign_exponent, sign_operand, begin, ordered, is_half, half, named, operator, comparison, after, dot, measured, number, step_in, step, start, run, operand, value_in, finish_behind, finish}
 use Rattle.tk_expr.specs.Pieces.{Lump, Run, Alone, with_letter, with_sign, lumps_of, piece_of, pieces_of}
 use Rattle.tk_expr.specs.Evaluated.{end_of, evaluated}
-use Rattle.tk_expr.specs.Pairs.{is_space, is_comma, is_and, is_comma_or_colon, find_outside, trimmed, is_group, part, part_value, plane, radii, polar, formed, formed_at, paired, length_along, vector_of}
+use Rattle.tk_expr.specs.Pairs.{is_comma, is_and, is_comma_or_colon, find_outside, is_space_token, is_open, after_spaces, closing, group_at, group, part, part_value, plane, radii, polar, formed, formed_at, paired, length_along, vector_of}
 
 module _ {A : Type 0} where
   -- what holds at a value, and at a fault
@@ -60,9 +60,9 @@ module _ {A B : Type 0} where
   holds_then P Q F (Ok a) f h k = k a h
   holds_then P Q F (Err e) f h k = h
 
-module _ (bound : ℕ) where
+module _ (Good : ℕ → Type 0) where
   abbrev Early : Fault → Type 0
-  Early f = f.at ≤ bound
+  Early f = Good f.at
 
   -- an answer whose fault stands early
   abbrev Fine : {A : Type 0} → Answer A → Type 0
@@ -72,13 +72,13 @@ module _ (bound : ℕ) where
   fine_then (Ok a) f h k = k a
   fine_then (Err e) f h k = h
 
-  placed_fine : (at : ℕ) (r : Result ℤ NumFault) → at ≤ bound → Fine (placed at r)
+  placed_fine : (at : ℕ) (r : Result ℤ NumFault) → Good at → Fine (placed at r)
   placed_fine at (Ok z) h = tt
   placed_fine at (Err e) h = h
 
   abbrev WaitingFine : Option Waiting → Type 0
   WaitingFine None = Unit {0}
-  WaitingFine (Some w) = Fine w.left × (w.at ≤ bound)
+  WaitingFine (Some w) = Fine w.left × (Good w.at)
 
   record PendingFine (p : Pending) : Type 0 where
     power : WaitingFine p.power
@@ -94,9 +94,9 @@ module _ (bound : ℕ) where
 
   abbrev BracketFine : Bracket → Type 0
   BracketFine Plain = Unit {0}
-  BracketFine (Only f at) = at ≤ bound
-  BracketFine (First f at) = at ≤ bound
-  BracketFine (Second f at x) = (at ≤ bound) × Fine x
+  BracketFine (Only f at) = Good at
+  BracketFine (First f at) = Good at
+  BracketFine (Second f at x) = (Good at) × Fine x
   BracketFine (Each f x) = OptionFine x
 
   abbrev FrameFine : Frame → Type 0
@@ -113,9 +113,9 @@ module _ (bound : ℕ) where
   ModeFine Ordered = Unit {0}
   ModeFine (Half wanted) = Unit {0}
   ModeFine (Named bracket) = BracketFine bracket
-  ModeFine (Dot place) = place ≤ bound
-  ModeFine (Number n) = n.at ≤ bound
-  ModeFine (Measured n) = n.at ≤ bound
+  ModeFine (Dot place) = Good place
+  ModeFine (Number n) = Good n.at
+  ModeFine (Measured n) = Good n.at
   ModeFine (After x) = Fine x
 
   record StateFine (s : State) : Type 0 where
@@ -159,16 +159,16 @@ module _ (bound : ℕ) where
   unfolding disjoined
   disjoined_fine p x h k = applied_fine p.disjunction _ h.disjunction (conjoined_fine p x h k)
 
-  product_fine : (o : Operator) (at : ℕ) (x : Found) (p : Pending) → at ≤ bound → Fine x → PendingFine p → PendingFine (product_waits o at x p)
+  product_fine : (o : Operator) (at : ℕ) (x : Found) (p : Pending) → Good at → Fine x → PendingFine p → PendingFine (product_waits o at x p)
   product_fine o at x p e k h = record { power = tt; product = (multiplied_fine p x h k, e); sum = h.sum; comparison = h.comparison; conjunction = h.conjunction; disjunction = h.disjunction }
 
-  sum_fine : (o : Operator) (at : ℕ) (x : Found) (p : Pending) → at ≤ bound → Fine x → PendingFine p → PendingFine (sum_waits o at x p)
+  sum_fine : (o : Operator) (at : ℕ) (x : Found) (p : Pending) → Good at → Fine x → PendingFine p → PendingFine (sum_waits o at x p)
   sum_fine o at x p e k h = record { power = tt; product = tt; sum = (added_fine p x h k, e); comparison = h.comparison; conjunction = h.conjunction; disjunction = h.disjunction }
 
-  comparison_fine : (o : Operator) (at : ℕ) (x : Found) (p : Pending) → at ≤ bound → Fine x → PendingFine p → PendingFine (comparison_waits o at x p)
+  comparison_fine : (o : Operator) (at : ℕ) (x : Found) (p : Pending) → Good at → Fine x → PendingFine p → PendingFine (comparison_waits o at x p)
   comparison_fine o at x p e k h = record { power = tt; product = tt; sum = tt; comparison = (compared_fine p x h k, e); conjunction = h.conjunction; disjunction = h.disjunction }
 
-  waits_fine : (o : Operator) (at : ℕ) (x : Found) (p : Pending) → at ≤ bound → Fine x → PendingFine p → PendingFine (waits o at x p)
+  waits_fine : (o : Operator) (at : ℕ) (x : Found) (p : Pending) → Good at → Fine x → PendingFine p → PendingFine (waits o at x p)
   waits_fine Raise at x p e k h = record { power = (powered_fine p x h k, e); product = h.product; sum = h.sum; comparison = h.comparison; conjunction = h.conjunction; disjunction = h.disjunction }
   waits_fine Multiply at x p e k h = product_fine Multiply at x p e k h
   waits_fine Divide at x p e k h = product_fine Divide at x p e k h
@@ -208,7 +208,7 @@ module _ (bound : ℕ) where
   nothing_fine : (fs : List Frame) (s : State) → FramesFine fs → StateFine (wanted_in fs s)
   nothing_fine fs s h = record { mode = tt; pending = record { power = tt; product = tt; sum = tt; comparison = tt; conjunction = tt; disjunction = tt }; frames = h }
 
-  opened_fine : (at : ℕ) (f : Frame) (s : State) → at ≤ bound → FrameFine f → StateFine s → Stays (opened at f s)
+  opened_fine : (at : ℕ) (f : Frame) (s : State) → Good at → FrameFine f → StateFine s → Stays (opened at f s)
   opened_fine at f s e k h = holds_if StateFine Early (nat_lt (length s.frames) 64) _ _ (nothing_fine (f ∷ s.frames) s (k, h.frames)) e
 
   outside_fine : (v : Found) (p : Pending) (fs : List Frame) (s : State) → Fine v → PendingFine p → FramesFine fs → StateFine (record { mode = After v; pending = p; frames = fs; unit = s.unit })
@@ -218,33 +218,33 @@ module _ (bound : ℕ) where
   most_fine f None y h k = k
   most_fine f (Some x) y h k = fine_then x _ h (λ v. fine_then y _ k (λ w. tt))
 
-  ends_fine : (at : ℕ) (b : Bracket) (v : Found) (p : Pending) (fs : List Frame) (s : State) → at ≤ bound → BracketFine b → Fine v → PendingFine p → FramesFine fs → Stays (bracket_ends at b v p fs s)
+  ends_fine : (at : ℕ) (b : Bracket) (v : Found) (p : Pending) (fs : List Frame) (s : State) → Good at → BracketFine b → Fine v → PendingFine p → FramesFine fs → Stays (bracket_ends at b v p fs s)
   ends_fine at Plain v p fs s e k h i j = outside_fine v p fs s h i j
   ends_fine at (Only f name) v p fs s e k h i j = outside_fine _ p fs s (fine_then v _ h (λ _. placed_fine name _ k)) i j
   ends_fine at (First f name) v p fs s e k h i j = k
   ends_fine at (Second f name x) v p fs s e k h i j = outside_fine _ p fs s (fine_then x _ k.1 (λ _. fine_then v _ h (λ _. placed_fine name _ k.0))) i j
   ends_fine at (Each f x) v p fs s e k h i j = outside_fine _ p fs s (most_fine f x v k h) i j
 
-  right_fine : (at : ℕ) (v : Found) (fs : List Frame) (s : State) → at ≤ bound → Fine v → FramesFine fs → Stays (right at v fs s)
+  right_fine : (at : ℕ) (v : Found) (fs : List Frame) (s : State) → Good at → Fine v → FramesFine fs → Stays (right at v fs s)
   right_fine at v [] s e h k = e
   right_fine at v (Inside bracket saved ∷ fs) s e h k = ends_fine at bracket v saved fs s e k.0.0 h k.0.1 k.1
   right_fine at v (Then c ∷ fs) s e h k = e
   right_fine at v (Else c x ∷ fs) s e h k = e
 
-  goes_on_fine : (at : ℕ) (b : Bracket) (v : Found) (p : Pending) (fs : List Frame) (s : State) → at ≤ bound → BracketFine b → Fine v → PendingFine p → FramesFine fs → Stays (bracket_goes_on at b v p fs s)
+  goes_on_fine : (at : ℕ) (b : Bracket) (v : Found) (p : Pending) (fs : List Frame) (s : State) → Good at → BracketFine b → Fine v → PendingFine p → FramesFine fs → Stays (bracket_goes_on at b v p fs s)
   goes_on_fine at Plain v p fs s e k h i j = e
   goes_on_fine at (Only f name) v p fs s e k h i j = k
   goes_on_fine at (First f name) v p fs s e k h i j = nothing_fine (Inside (Second f name v) p ∷ fs) s (((k, h), i), j)
   goes_on_fine at (Second f name x) v p fs s e k h i j = k.0
   goes_on_fine at (Each f x) v p fs s e k h i j = nothing_fine (Inside (Each f (Some (most_found f x v))) p ∷ fs) s ((most_fine f x v k h, i), j)
 
-  comma_fine : (at : ℕ) (v : Found) (fs : List Frame) (s : State) → at ≤ bound → Fine v → FramesFine fs → Stays (comma at v fs s)
+  comma_fine : (at : ℕ) (v : Found) (fs : List Frame) (s : State) → Good at → Fine v → FramesFine fs → Stays (comma at v fs s)
   comma_fine at v [] s e h k = e
   comma_fine at v (Inside bracket saved ∷ fs) s e h k = goes_on_fine at bracket v saved fs s e k.0.0 h k.0.1 k.1
   comma_fine at v (Then c ∷ fs) s e h k = e
   comma_fine at v (Else c x ∷ fs) s e h k = e
 
-  colon_fine : (at : ℕ) (v : Found) (fs : List Frame) (s : State) → at ≤ bound → Fine v → FramesFine fs → Stays (colon at v fs s)
+  colon_fine : (at : ℕ) (v : Found) (fs : List Frame) (s : State) → Good at → Fine v → FramesFine fs → Stays (colon at v fs s)
   colon_fine at v [] s e h k = e
   colon_fine at v (Inside bracket saved ∷ fs) s e h k = e
   colon_fine at v (Then c ∷ fs) s e h k = nothing_fine (Else c v ∷ fs) s ((k.0, h), k.1)
@@ -258,16 +258,16 @@ module _ (bound : ℕ) where
   same_pending : (m : Mode) (s : State) (p : Pending) → ModeFine m → PendingFine p → StateFine s → StateFine (record s { mode = m; pending = p })
   same_pending m s p k l h = record { mode = k; pending = l; frames = h.frames }
 
-  exponent_fine : (sign : Prefix) (at : ℕ) (s : State) → at ≤ bound → StateFine s → Stays (sign_exponent sign at s)
+  exponent_fine : (sign : Prefix) (at : ℕ) (s : State) → Good at → StateFine s → Stays (sign_exponent sign at s)
   exponent_fine Not at s e h = e
   exponent_fine Negate at s e h = record { mode = tt; pending = (let p = h.pending in record { power = p.power; product = p.product; sum = p.sum; comparison = p.comparison; conjunction = p.conjunction; disjunction = p.disjunction }); frames = h.frames }
   exponent_fine Keep at s e h = record { mode = tt; pending = (let p = h.pending in record { power = p.power; product = p.product; sum = p.sum; comparison = p.comparison; conjunction = p.conjunction; disjunction = p.disjunction }); frames = h.frames }
 
-  operand_fine : (w : Option Waiting) (sign : Prefix) (at : ℕ) (s : State) → at ≤ bound → StateFine s → Stays (sign_operand w sign at s)
+  operand_fine : (w : Option Waiting) (sign : Prefix) (at : ℕ) (s : State) → Good at → StateFine s → Stays (sign_operand w sign at s)
   operand_fine None sign at s e h = record { mode = tt; pending = (let p = h.pending in record { power = p.power; product = p.product; sum = p.sum; comparison = p.comparison; conjunction = p.conjunction; disjunction = p.disjunction }); frames = h.frames }
   operand_fine (Some w) sign at s e h = exponent_fine sign at s e h
 
-  begin_fine : (m : Mark) (at : ℕ) (s : State) → at ≤ bound → StateFine s → Stays (begin m at s)
+  begin_fine : (m : Mark) (at : ℕ) (s : State) → Good at → StateFine s → Stays (begin m at s)
   begin_fine (Digit d) at s e h = mode_fine _ s e h
   begin_fine Dots at s e h = mode_fine _ s e h
   begin_fine Pi at s e h = mode_fine _ s tt h
@@ -281,25 +281,25 @@ module _ (bound : ℕ) where
   begin_fine Gap at s e h = mode_fine Wanted s tt h
   begin_fine _ at s e h = e
 
-  ordered_fine : (m : Mark) (at : ℕ) (s : State) → at ≤ bound → StateFine s → Stays (ordered m at s)
+  ordered_fine : (m : Mark) (at : ℕ) (s : State) → Good at → StateFine s → Stays (ordered m at s)
   ordered_fine Equals at s e h = record { mode = tt; pending = (let p = h.pending in record { power = p.power; product = p.product; sum = p.sum; comparison = or_same_fine s.pending.comparison p.comparison; conjunction = p.conjunction; disjunction = p.disjunction }); frames = h.frames }
   ordered_fine mark at s e h = begin_fine mark at s e h
 
-  half_fine : (w m : Mark) (at : ℕ) (s : State) → at ≤ bound → StateFine s → Stays (half w m at s)
+  half_fine : (w m : Mark) (at : ℕ) (s : State) → Good at → StateFine s → Stays (half w m at s)
   half_fine w m at s e h = holds_if StateFine Early (is_half w m) _ _ (mode_fine Wanted s tt h) e
 
-  named_fine : (b : Bracket) (m : Mark) (at : ℕ) (s : State) → at ≤ bound → BracketFine b → StateFine s → Stays (named b m at s)
+  named_fine : (b : Bracket) (m : Mark) (at : ℕ) (s : State) → Good at → BracketFine b → StateFine s → Stays (named b m at s)
   named_fine b Left at s e k h = opened_fine at (Inside b s.pending) s e (k, h.pending) h
   named_fine b Gap at s e k h = mode_fine (Named b) s k h
   named_fine b _ at s e k h = e
 
-  operator_fine : (o : Operator) (m : Mode) (at : ℕ) (x : Found) (s : State) → at ≤ bound → ModeFine m → Fine x → StateFine s → Stays (operator o m at x s)
+  operator_fine : (o : Operator) (m : Mode) (at : ℕ) (x : Found) (s : State) → Good at → ModeFine m → Fine x → StateFine s → Stays (operator o m at x s)
   operator_fine o m at x s e i k h = same_pending m s (waits o at x s.pending) i (waits_fine o at x s.pending e k h.pending) h
 
-  a_comparison_fine : (o : Operator) (m : Mode) (at : ℕ) (x : Found) (s : State) → at ≤ bound → ModeFine m → Fine x → StateFine s → Stays (comparison o m at x s)
+  a_comparison_fine : (o : Operator) (m : Mode) (at : ℕ) (x : Found) (s : State) → Good at → ModeFine m → Fine x → StateFine s → Stays (comparison o m at x s)
   a_comparison_fine o m at x s e i k h = holds_if StateFine Early (is_some s.pending.comparison) _ _ e (operator_fine o m at x s e i k h)
 
-  after_fine : (font : FontUnits) (x : Found) (m : Mark) (at : ℕ) (s : State) → at ≤ bound → Fine x → StateFine s → Stays (after font x m at s)
+  after_fine : (font : FontUnits) (x : Found) (m : Mark) (at : ℕ) (s : State) → Good at → Fine x → StateFine s → Stays (after font x m at s)
   after_fine font x (Measure unit) at s e k h = record { mode = fine_then x _ k (λ v. placed_fine at _ e); pending = h.pending; frames = h.frames }
   after_fine font x Radian at s e k h = mode_fine _ s (fine_then x _ k (λ v. placed_fine at _ e)) h
   after_fine font x Caret at s e k h = operator_fine Raise Wanted at x s e tt k h
@@ -320,29 +320,29 @@ module _ (bound : ℕ) where
   after_fine font x Gap at s e k h = mode_fine (After x) s k h
   after_fine font x _ at s e k h = e
 
-  digit_fine : (d : ℕ) (n : Decimal) → n.at ≤ bound → (with_digit d n).at ≤ bound
+  digit_fine : (d : ℕ) (n : Decimal) → Good n.at → Good (with_digit d n).at
   digit_fine d n h = at n.pointed (nat_lt n.count 17)
     where
-      at : (b c : Bool) → (cond b (cond c (record n { count = n.count + 1; part = 10 * n.part + d }) n) (with_whole_digit d n)).at ≤ bound
+      at : (b c : Bool) → Good (cond b (cond c (record n { count = n.count + 1; part = 10 * n.part + d }) n) (with_whole_digit d n)).at
       at true true = h
       at true false = h
       at false c = h
 
-  dot_fine : (place : ℕ) (m : Mark) (at : ℕ) (s : State) → at ≤ bound → place ≤ bound → StateFine s → Stays (dot place m at s)
+  dot_fine : (place : ℕ) (m : Mark) (at : ℕ) (s : State) → Good at → Good place → StateFine s → Stays (dot place m at s)
   dot_fine place (Digit d) at s e k h = mode_fine _ s (digit_fine d (no_digits true place) k) h
   dot_fine place _ at s e k h = e
 
-  measured_fine : (font : FontUnits) (n : Decimal) (m : Mark) (at : ℕ) (s : State) → at ≤ bound → n.at ≤ bound → StateFine s → Stays (measured font n m at s)
+  measured_fine : (font : FontUnits) (n : Decimal) (m : Mark) (at : ℕ) (s : State) → Good at → Good n.at → StateFine s → Stays (measured font n m at s)
   measured_fine font n (Measure unit) at s e k h = record { mode = placed_fine n.at _ k; pending = h.pending; frames = h.frames }
   measured_fine font n Gap at s e k h = mode_fine (Measured n) s k h
   measured_fine font n mark at s e k h = after_fine font (plain_value font n) mark at s e (placed_fine n.at _ k) h
 
-  number_fine : (font : FontUnits) (n : Decimal) (m : Mark) (at : ℕ) (s : State) → at ≤ bound → n.at ≤ bound → StateFine s → Stays (number font n m at s)
+  number_fine : (font : FontUnits) (n : Decimal) (m : Mark) (at : ℕ) (s : State) → Good at → Good n.at → StateFine s → Stays (number font n m at s)
   number_fine font n (Digit d) at s e k h = mode_fine _ s (digit_fine d n k) h
   number_fine font n Dots at s e k h = holds_if StateFine Early n.pointed _ _ e (mode_fine (Number (with_point n)) s k h)
   number_fine font n mark at s e k h = measured_fine font n mark at s e k h
 
-  mode_step : (font : FontUnits) (m : Mode) (mark : Mark) (at : ℕ) (s : State) → at ≤ bound → ModeFine m → StateFine s → Stays (step_in font m mark at s)
+  mode_step : (font : FontUnits) (m : Mode) (mark : Mark) (at : ℕ) (s : State) → Good at → ModeFine m → StateFine s → Stays (step_in font m mark at s)
   mode_step font Wanted mark at s e k h = begin_fine mark at s e h
   mode_step font Ordered mark at s e k h = ordered_fine mark at s e h
   mode_step font (Half wanted) mark at s e k h = half_fine wanted mark at s e h
@@ -352,27 +352,27 @@ module _ (bound : ℕ) where
   mode_step font (Measured n) mark at s e k h = measured_fine font n mark at s e k h
   mode_step font (After x) mark at s e k h = after_fine font x mark at s e k h
 
-  step_fine : (font : FontUnits) (s : State) (p : Piece) → p.at ≤ bound → StateFine s → Stays (step font s p)
+  step_fine : (font : FontUnits) (s : State) (p : Piece) → Good p.at → StateFine s → Stays (step font s p)
   unfolding step
   step_fine font s p e h = mode_step font s.mode p.mark p.at s e h.mode h
 
   -- ---- all pieces
 
   abbrev PiecesFine : List Piece → Type 0
-  PiecesFine ps = AllByRecursion (λ (p : Piece). p.at ≤ bound) ps
+  PiecesFine ps = AllByRecursion (λ (p : Piece). Good p.at) ps
 
   run_fine : (font : FontUnits) (s : State) (ps : List Piece) → PiecesFine ps → StateFine s → Stays (run font s ps)
   run_fine font s [] e h = h
   run_fine font s (p ∷ ps) e h = holds_then StateFine StateFine Early (step font s p) _ (step_fine font s p e.0 h) (λ t k. run_fine font t ps e.1 k)
 
-  value_fine : (end : ℕ) (fs : List Frame) (v : Found) (unit : Bool) → end ≤ bound → Fine v → Fine (value_in end fs v unit)
+  value_fine : (end : ℕ) (fs : List Frame) (v : Found) (unit : Bool) → Good end → Fine v → Fine (value_in end fs v unit)
   value_fine end [] v unit e h = fine_then v _ h (λ n. tt)
   value_fine end (f ∷ fs) v unit e h = e
 
-  last_fine : (end : ℕ) (x : Found) (s : State) → end ≤ bound → Fine x → StateFine s → Fine (finish_behind end (Some x) s)
+  last_fine : (end : ℕ) (x : Found) (s : State) → Good end → Fine x → StateFine s → Fine (finish_behind end (Some x) s)
   last_fine end x s e k h = value_fine end _ _ s.unit e (behind_fine x s k h).value
 
-  mode_last : (font : FontUnits) (m : Mode) (end : ℕ) (s : State) → end ≤ bound → ModeFine m → StateFine s → Fine (finish_behind end (operand font m) s)
+  mode_last : (font : FontUnits) (m : Mode) (end : ℕ) (s : State) → Good end → ModeFine m → StateFine s → Fine (finish_behind end (operand font m) s)
   mode_last font (Number n) end s e k h = last_fine end _ s e (placed_fine n.at _ k) h
   mode_last font (Measured n) end s e k h = last_fine end _ s e (placed_fine n.at _ k) h
   mode_last font (After x) end s e k h = last_fine end x s e k h
@@ -382,32 +382,32 @@ module _ (bound : ℕ) where
   mode_last font (Named bracket) end s e k h = e
   mode_last font (Dot place) end s e k h = e
 
-  finish_fine : (font : FontUnits) (end : ℕ) (s : State) → end ≤ bound → StateFine s → Fine (finish font end s)
+  finish_fine : (font : FontUnits) (end : ℕ) (s : State) → Good end → StateFine s → Fine (finish font end s)
   unfolding finish
   finish_fine font end s e h = mode_last font s.mode end s e h.mode h
 
   -- ---- tokens
 
   abbrev Within : List Token → Type 0
-  Within ts = AllByRecursion (λ (t : Token). t.at ≤ bound) ts
+  Within ts = AllByRecursion (λ (t : Token). Good t.at) ts
 
   abbrev LumpFine : Lump → Type 0
-  LumpFine (Run text at) = at ≤ bound
-  LumpFine (Alone sign at) = at ≤ bound
+  LumpFine (Run text at) = Good at
+  LumpFine (Alone sign at) = Good at
 
   abbrev LumpsFine : List Lump → Type 0
   LumpsFine lumps = AllByRecursion LumpFine lumps
 
-  letter_fine : (c at : ℕ) (lumps : List Lump) → at ≤ bound → LumpsFine lumps → LumpsFine (with_letter c at lumps)
+  letter_fine : (c at : ℕ) (lumps : List Lump) → Good at → LumpsFine lumps → LumpsFine (with_letter c at lumps)
   letter_fine c at [] e h = (e, h)
   letter_fine c at (Run text place ∷ lumps) e h = (e, h.1)
   letter_fine c at (Alone sign place ∷ lumps) e h = (e, h)
 
-  char_fine : (c at : ℕ) (lumps : List Lump) (b : Bool) → at ≤ bound → LumpsFine lumps → LumpsFine (cond b (with_letter c at lumps) (Alone (A_char c) at ∷ lumps))
+  char_fine : (c at : ℕ) (lumps : List Lump) (b : Bool) → Good at → LumpsFine lumps → LumpsFine (cond b (with_letter c at lumps) (Alone (A_char c) at ∷ lumps))
   char_fine c at lumps true e h = letter_fine c at lumps e h
   char_fine c at lumps false e h = (e, h)
 
-  sign_fine : (sign : Sign) (at : ℕ) (lumps : List Lump) → at ≤ bound → LumpsFine lumps → LumpsFine (with_sign sign at lumps)
+  sign_fine : (sign : Sign) (at : ℕ) (lumps : List Lump) → Good at → LumpsFine lumps → LumpsFine (with_sign sign at lumps)
   sign_fine (A_char c) at lumps e h = char_fine c at lumps (is_letter c) e h
   sign_fine _ at lumps e h = (e, h)
 
@@ -420,11 +420,11 @@ module _ (bound : ℕ) where
   pieces_fine (Run text at ∷ lumps) h = (h.0, pieces_fine lumps h.1)
   pieces_fine (Alone sign at ∷ lumps) h = (h.0, pieces_fine lumps h.1)
 
-  end_fine : (at : ℕ) (ts : List Token) → at ≤ bound → Within ts → end_of at ts ≤ bound
+  end_fine : (at : ℕ) (ts : List Token) → Good at → Within ts → Good (end_of at ts)
   end_fine at [] e h = e
   end_fine at (t ∷ ts) e h = end_fine t.at ts h.0 h.1
 
-  evaluated_fine : (font : FontUnits) (at : ℕ) (ts : List Token) → at ≤ bound → Within ts → Fine (evaluated font at ts)
+  evaluated_fine : (font : FontUnits) (at : ℕ) (ts : List Token) → Good at → Within ts → Fine (evaluated font at ts)
   unfolding evaluated
   evaluated_fine font at ts e h = holds_then StateFine (λ _. Unit {0}) Early (run font start (pieces_of ts)) _ (run_fine font start (pieces_of ts) (pieces_fine (lumps_of ts) (lumps_fine ts h)) (nothing_fine [] start tt)) (λ s k. finish_fine font (end_of at ts) s (end_fine at ts e h) k)
 
@@ -440,53 +440,77 @@ module _ (bound : ℕ) where
   taken (suc k) [] h = tt
   taken (suc k) (t ∷ ts) h = (h.0, taken k ts h.1)
 
-  if_within : (b : Bool) (ts us : List Token) → Within ts → Within us → Within (cond b ts us)
-  if_within true ts us h k = h
-  if_within false ts us h k = k
+  abbrev AllSome : Option (List Token) → Type 0
+  AllSome None = Unit {0}
+  AllSome (Some ts) = Within ts
 
-  trimmed_within : (ts : List Token) → Within ts → Within (trimmed ts)
-  unfolding trimmed
-  trimmed_within ts h = taken _ _ (dropped (prefix_len (λ (t : Token). is_space t.sign) ts) ts h)
+  closed_within : (ts : List Token) (b : Bool) (n : ℕ) → Within ts → AllSome (cond b (Some (take n ts)) None)
+  closed_within ts true n h = taken n ts h
+  closed_within ts false n h = tt
+
+  group_at_within : (ts : List Token) (n : Option ℕ) → Within ts → AllSome (group_at ts n)
+  group_at_within ts None h = tt
+  group_at_within ts (Some n) h = closed_within ts (list_all is_space_token (drop (n + 1) ts)) n h
+
+  some_if : (b : Bool) (o : Option (List Token)) → AllSome o → AllSome (cond b o None)
+  some_if true o h = h
+  some_if false o h = tt
+
+  group_within : (ts : List Token) → Within ts → AllSome (group ts)
+  group_within [] h = tt
+  group_within (t ∷ ts) h = some_if (is_open t.sign) (group_at ts (closing 1 ts)) (group_at_within ts (closing 1 ts) h.1)
+
+  or_within : (o : Option (List Token)) (ts : List Token) → AllSome o → Within ts → Within (unwrap_or o ts)
+  or_within None ts h k = k
+  or_within (Some us) ts h k = h
 
   part_within : (ts : List Token) → Within ts → Within (part ts)
   unfolding part
-  part_within ts h = if_within (is_group (trimmed ts)) _ _ (taken (length (trimmed ts) - 2) (drop 1 (trimmed ts)) (dropped 1 (trimmed ts) (trimmed_within ts h))) h
+  part_within ts h = or_within (group (after_spaces ts)) ts (group_within (after_spaces ts) (dropped (prefix_len is_space_token ts) ts h)) h
 
-  value_within : (font : FontUnits) (at : ℕ) (ts : List Token) → at ≤ bound → Within ts → Fine (part_value font at ts)
+  value_within : (font : FontUnits) (at : ℕ) (ts : List Token) → Good at → Within ts → Fine (part_value font at ts)
   value_within font at ts e h = evaluated_fine font at (part ts) e (part_within ts h)
 
-  plane_within : (font : FontUnits) (at : ℕ) (front back : List Token) → at ≤ bound → Within front → Within back → Fine (plane font at front back)
+  plane_within : (font : FontUnits) (at : ℕ) (front back : List Token) → Good at → Within front → Within back → Fine (plane font at front back)
   unfolding plane
   plane_within font at front back e h k = holds_if (λ _. Unit {0}) Early (is_some (find_outside is_comma back)) _ _ e (fine_then (part_value font at front) _ (value_within font at front e h) (λ x. fine_then (part_value font at back) _ (value_within font at back e k) (λ y. tt)))
 
-  radii_within : (font : FontUnits) (at : ℕ) (angle : ℤ) (back : List Token) (n : Option ℕ) → at ≤ bound → Within back → Fine (radii font at angle back n)
+  radii_within : (font : FontUnits) (at : ℕ) (angle : ℤ) (back : List Token) (n : Option ℕ) → Good at → Within back → Fine (radii font at angle back n)
   radii_within font at angle back None e h = fine_then (part_value font at back) _ (value_within font at back e h) (λ r. tt)
   radii_within font at angle back (Some n) e h = fine_then (part_value font at (take n back)) _ (value_within font at (take n back) e (taken n back h)) (λ r. fine_then (part_value font at (drop (n + 3) back)) _ (value_within font at (drop (n + 3) back) e (dropped (n + 3) back h)) (λ s. tt))
 
-  polar_within : (font : FontUnits) (at : ℕ) (front back : List Token) → at ≤ bound → Within front → Within back → Fine (polar font at front back)
+  polar_within : (font : FontUnits) (at : ℕ) (front back : List Token) → Good at → Within front → Within back → Fine (polar font at front back)
   unfolding polar
   polar_within font at front back e h k = fine_then (evaluated font at front) _ (evaluated_fine font at front e h) (λ angle. radii_within font at angle.number back (find_outside is_and back) e k)
 
-  formed_within : (font : FontUnits) (at : ℕ) (ts : List Token) (n : Option ℕ) → at ≤ bound → Within ts → Fine (formed_at font at ts n)
+  formed_within : (font : FontUnits) (at : ℕ) (ts : List Token) (n : Option ℕ) → Good at → Within ts → Fine (formed_at font at ts n)
   formed_within font at ts None e h = tt
   formed_within font at ts (Some n) e h = fine_then (formed font at ts n) _ (holds_if (λ _. Unit {0}) Early (is_comma (drop n ts)) _ _ (plane_within font at (take n ts) (drop (n + 1) ts) e (taken n ts h) (dropped (n + 1) ts h)) (polar_within font at (take n ts) (drop (n + 1) ts) e (taken n ts h) (dropped (n + 1) ts h))) (λ pair. tt)
 
-  along_within : (vector : ℤ) (at : ℕ) (v : Value) → at ≤ bound → Fine (length_along vector at v)
+  along_within : (vector : ℤ) (at : ℕ) (v : Value) → Good at → Fine (length_along vector at v)
   along_within vector at v e = holds_if (λ _. Unit {0}) Early v.unit _ _ tt (placed_fine at _ e)
 
 -- two numbers of a point, at one place
-two_placed : (bound at : ℕ) (a b : Result ℤ NumFault) → at ≤ bound → Fine bound (let r : Answer Point = placed at a >>= λ p. placed at b >>= λ q. Ok (record { x = p; y = q }) in r)
-two_placed bound at (Ok a) (Ok b) e = tt
-two_placed bound at (Ok a) (Err f) e = e
-two_placed bound at (Err f) b e = e
+two_placed : (Good : ℕ → Type 0) (at : ℕ) (a b : Result ℤ NumFault) → Good at → Fine Good (let r : Answer Point = placed at a >>= λ p. placed at b >>= λ q. Ok (record { x = p; y = q }) in r)
+two_placed Good at (Ok a) (Ok b) e = tt
+two_placed Good at (Ok a) (Err f) e = e
+two_placed Good at (Err f) b e = e
+
+-- what holds of all places of a text and of its own holds of the place of a pair's fault
+pub paired_at : (font : FontUnits) (at : ℕ) (ts : List Token) (Good : ℕ → Type 0) → Good at → AllByRecursion (λ (t : Token). Good t.at) ts → IfErr (paired font at ts) (λ (f : Fault). Good f.at)
+unfolding paired
+paired_at font at ts Good e h = only_fault (λ _. Unit {0}) (Early Good) (formed_at font at ts (find_outside is_comma_or_colon ts)) (formed_within Good font at ts (find_outside is_comma_or_colon ts) e h)
 
 -- no fault of a pair stands past all places of its text and its own
 pub paired_within : (font : FontUnits) (at : ℕ) (ts : List Token) (bound : ℕ) → at ≤ bound → AllByRecursion (λ (t : Token). t.at ≤ bound) ts → IfErr (paired font at ts) (λ (f : Fault). f.at ≤ bound)
-unfolding paired
-paired_within font at ts bound e h = only_fault (λ _. Unit {0}) (Early bound) (formed_at font at ts (find_outside is_comma_or_colon ts)) (formed_within bound font at ts (find_outside is_comma_or_colon ts) e h)
+paired_within font at ts bound e h = paired_at font at ts (λ n. n ≤ bound) e h
+
+-- what holds of its place holds of the place of a vector's fault
+pub vector_at : (x y : ℤ) (at : ℕ) (p : ValuePair) (Good : ℕ → Type 0) → Good at → IfErr (vector_of x y at p) (λ (f : Fault). Good f.at)
+unfolding vector_of
+vector_at x y at (Plane v w) Good e = only_fault (λ _. Unit {0}) (Early Good) _ (fine_then Good (length_along x at v) _ (along_within Good x at v e) (λ p. fine_then Good (length_along y at w) _ (along_within Good y at w e) (λ q. tt)))
+vector_at x y at (Polar angle v w) Good e = only_fault (λ _. Unit {0}) (Early Good) _ (fine_then Good (length_along x at v) _ (along_within Good x at v e) (λ r. fine_then Good (length_along y at w) _ (along_within Good y at w e) (λ s. two_placed Good at (scaled (product r (cosine angle))) (scaled (product s (sine angle))) e)))
 
 -- no fault of a vector stands past its place
 pub vector_within : (x y : ℤ) (at : ℕ) (p : ValuePair) (bound : ℕ) → at ≤ bound → IfErr (vector_of x y at p) (λ (f : Fault). f.at ≤ bound)
-unfolding vector_of
-vector_within x y at (Plane v w) bound e = only_fault (λ _. Unit {0}) (Early bound) _ (fine_then bound (length_along x at v) _ (along_within bound x at v e) (λ p. fine_then bound (length_along y at w) _ (along_within bound y at w e) (λ q. tt)))
-vector_within x y at (Polar angle v w) bound e = only_fault (λ _. Unit {0}) (Early bound) _ (fine_then bound (length_along x at v) _ (along_within bound x at v e) (λ r. fine_then bound (length_along y at w) _ (along_within bound y at w e) (λ s. two_placed bound at (scaled (product r (cosine angle))) (scaled (product s (sine angle))) e)))
+vector_within x y at p bound e = vector_at x y at p (λ n. n ≤ bound) e

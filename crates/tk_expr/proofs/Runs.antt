@@ -24,7 +24,7 @@ use Rattle.tk_expr.proofs.Finishing.{FinishIs, finds, lacks, finish_is, one_valu
 use Rattle.tk_expr.proofs.Levels.{fresh_whole}
 use Rattle.tk_expr.proofs.Outcomes.{IsPlain, CalledAt, Called, Opens, NamedAt, NoCall, InCall, Ahead, NoMiscount, Miscounts, Valid, Kept, SureIs, steps, refuses, miscounts, StepIs, sure, deep, Same}
 use Rattle.tk_expr.proofs.ProperPieces.{AllProper, proper}
-use Rattle.tk_expr.proofs.Steps.{step_is}
+use Rattle.tk_expr.proofs.Stepping.{step_is}
 use Rattle.tk_expr.proofs.Trees.{read_expression, tell_whole}
 
 -- ---- openers

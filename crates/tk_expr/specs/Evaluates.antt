@@ -28,7 +28,7 @@ has_unit ps = list_any (λ (p : Piece). is_unit p.mark) ps
 abbrev pub valued : Bool → Answer ℤ → Answer Value
 valued unit found = found >>= λ n. Ok (record { number = n; unit = unit })
 
--- The first piece that doesn't fit is x: no text goes on from the pieces up to it, and one of those before it.
+-- The first piece that doesn't fit is x: some text goes on from the pieces before it, and none from those up to it.
 pub record IsMisfit (ps before : List Piece) (x : Piece) : Type 0 where
   pub rest : List Piece
   pub split : ps ≡ before ++ x ∷ rest

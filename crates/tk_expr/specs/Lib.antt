@@ -6,5 +6,7 @@ pub mod Machine
 pub mod Number
 pub mod Pairs
 pub mod Pieces
+pub mod Runs
+pub mod Steps
 pub mod Tree
 pub mod Values

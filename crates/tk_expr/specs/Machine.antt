@@ -1,5 +1,6 @@
--- The machine that reads an expression piece by piece, without a tree. The law in Evaluates says what it computes.
+-- The machine that reads an expression piece by piece, without a tree. What it comes to for a text is what the relation of Evaluates says of it.
 use Rattle.std.specs.Prelude.{ℕ, Bool, true, false, not, nat_lt, if◌then◌else◌, List, [], ◌∷◌, length, Option, Some, None, is_some, Ok, ℤ}
+use Rattle.tk_num.specs.declared.unit.Unit.{Unit}
 use Rattle.tk_token.specs.declared.Code.TheVariants.{TooDeep, Expression}
 use Rattle.tk_token.specs.Answers.{Answer, ◌>>=◌, fault}
 use Rattle.tk_expr.specs.declared.FontUnits.{FontUnits}
@@ -24,6 +25,7 @@ use Rattle.tk_expr.specs.declared.machine.Frame.{Frame}
 use Rattle.tk_expr.specs.declared.machine.Frame.TheVariants.{Inside, Then, Else}
 use Rattle.tk_expr.specs.declared.machine.Mode.{Mode}
 use Rattle.tk_expr.specs.declared.machine.Mode.TheVariants.{Wanted, Ordered, Half, Named, Dot, Number, Measured, After}
+pub use Rattle.tk_expr.specs.declared.machine.State.{State}
 use Rattle.tk_expr.specs.declared.Value.{Value}
 use Rattle.tk_expr.specs.Number.{Decimal, no_digits, with_digit, with_point, plain_value, unit_value}
 use Rattle.tk_expr.specs.Values.{placed, truth, is_true, prefixed, operated, chosen, in_unit, in_degrees, pi_value, called_one, called_two, called_most}
@@ -31,13 +33,6 @@ use Rattle.tk_expr.specs.Values.{placed, truth, is_true, prefixed, operated, cho
 -- a number, or the first fault on the way to it
 abbrev pub Found : Type 0
 Found = Answer ℤ
-
--- What was read last; what waits in the innermost expression; what is open, innermost first; and whether a unit was read.
-pub record State : Type 0 where
-  pub mode : Mode
-  pub pending : Pending
-  pub frames : List Frame
-  pub unit : Bool
 
 -- ---- signs
 
@@ -90,22 +85,27 @@ applied (Some w) x = do
   b ← x
   placed w.at (operated w.operator a b)
 
--- an operand with what waits for it on the levels up to `^`, to `*`, to `+`, to `<`, to `&&` and to `||`
+-- an operand with what waits for it on the level of `^`
 unfoldable pub powered : Pending → Found → Found
 powered p x = applied p.power (signed_found p.exponent x)
 
+-- an operand with what waits for it up to the level of `*`
 unfoldable pub multiplied : Pending → Found → Found
 multiplied p x = applied p.product (signed_found p.signs (powered p x))
 
+-- an operand with what waits for it up to the level of `+`
 unfoldable pub added : Pending → Found → Found
 added p x = applied p.sum (multiplied p x)
 
+-- an operand with what waits for it up to the level of `<`
 unfoldable pub compared : Pending → Found → Found
 compared p x = applied p.comparison (added p x)
 
+-- an operand with what waits for it up to the level of `&&`
 unfoldable pub conjoined : Pending → Found → Found
 conjoined p x = applied p.conjunction (compared p x)
 
+-- an operand with what waits for it on all levels: the value of an expression that ends behind it
 unfoldable pub disjoined : Pending → Found → Found
 disjoined p x = applied p.disjunction (conjoined p x)
 
@@ -113,13 +113,15 @@ disjoined p x = applied p.disjunction (conjoined p x)
 abbrev pub waiting : Operator → ℕ → Found → Option Waiting
 waiting o at x = Some (record { left = x; operator = o; at = at })
 
--- what waits once an operator of that level is read behind an operand: all that is tighter is settled
+-- what waits once `*` or `/` is read behind an operand: all that binds as tightly or tighter is settled
 abbrev pub product_waits : Operator → ℕ → Found → Pending → Pending
 product_waits o at x p = record p { exponent = no_signs; power = None; signs = no_signs; product = waiting o at (multiplied p x) }
 
+-- what waits once `+` or `-` is read behind an operand
 abbrev pub sum_waits : Operator → ℕ → Found → Pending → Pending
 sum_waits o at x p = record p { exponent = no_signs; power = None; signs = no_signs; product = None; sum = waiting o at (added p x) }
 
+-- what waits once a comparison is read behind an operand
 abbrev pub comparison_waits : Operator → ℕ → Found → Pending → Pending
 comparison_waits o at x p = record p { exponent = no_signs; power = None; signs = no_signs; product = None; sum = None; comparison = waiting o at (compared p x) }
 
@@ -166,6 +168,11 @@ closed v [] = record { value = v; frames = [] }
 closed v (Else c x ∷ frames) = closed (choice_found c x v) frames
 closed v (frame ∷ frames) = record { value = v; frames = frame ∷ frames }
 
+-- whether the innermost is a `?` that has its `:`
+abbrev pub is_choice : List Frame → Bool
+is_choice (Else c x ∷ frames) = true
+is_choice _ = false
+
 -- the end of the innermost expression, behind its last operand
 abbrev pub closed_behind : Found → State → Closed
 closed_behind x s = closed (disjoined s.pending x) s.frames
@@ -182,10 +189,11 @@ opened at frame s = if nat_lt (length s.frames) 64 then Ok (wanted_in (frame ∷
 abbrev pub outside : Found → Pending → List Frame → State → State
 outside v saved frames s = record { mode = After v; pending = saved; frames = frames; unit = s.unit }
 
--- the value of a call
+-- the value of a call with one argument
 abbrev pub one_found : One → ℕ → Found → Found
 one_found f at x = x >>= λ v. placed at (called_one f v)
 
+-- the value of a call with two arguments
 abbrev pub two_found : Two → ℕ → Found → Found → Found
 two_found f at x y = do
   v ← x
@@ -200,7 +208,7 @@ most_found f (Some x) y = do
   w ← y
   Ok (called_most f v w)
 
--- a `)` at that place, behind a value; a call with too few arguments is refused at its name
+-- the end of a parenthesis behind a value; a call with too few arguments is refused at its name
 abbrev pub bracket_ends : ℕ → Bracket → Found → Pending → List Frame → State → Answer State
 bracket_ends at Plain v saved frames s = Ok (outside v saved frames s)
 bracket_ends at (Only f name) v saved frames s = Ok (outside (one_found f name v) saved frames s)
@@ -208,11 +216,12 @@ bracket_ends at (First f name) v saved frames s = fault Expression name
 bracket_ends at (Second f name x) v saved frames s = Ok (outside (two_found f name x v) saved frames s)
 bracket_ends at (Each f x) v saved frames s = Ok (outside (most_found f x v) saved frames s)
 
+-- a `)` at that place, behind a value
 abbrev pub right : ℕ → Found → List Frame → State → Answer State
 right at v (Inside bracket saved ∷ frames) s = bracket_ends at bracket v saved frames s
 right at v _ s = fault Expression at
 
--- a `,` at that place, behind a value; a call with too many arguments is refused at its name
+-- the next argument in a parenthesis behind a value; a call with too many arguments is refused at its name
 abbrev pub bracket_goes_on : ℕ → Bracket → Found → Pending → List Frame → State → Answer State
 bracket_goes_on at Plain v saved frames s = fault Expression at
 bracket_goes_on at (Only f name) v saved frames s = fault Expression name
@@ -220,6 +229,7 @@ bracket_goes_on at (First f name) v saved frames s = Ok (wanted_in (Inside (Seco
 bracket_goes_on at (Second f name x) v saved frames s = fault Expression name
 bracket_goes_on at (Each f x) v saved frames s = Ok (wanted_in (Inside (Each f (Some (most_found f x v))) saved ∷ frames) s)
 
+-- a `,` at that place, behind a value
 abbrev pub comma : ℕ → Found → List Frame → State → Answer State
 comma at v (Inside bracket saved ∷ frames) s = bracket_goes_on at bracket v saved frames s
 comma at v _ s = fault Expression at
@@ -245,7 +255,7 @@ abbrev pub sign_operand : Option Waiting → Prefix → ℕ → State → Answer
 sign_operand None sign at s = Ok (record s { mode = Wanted; pending = record s.pending { signs = with_prefix sign s.pending.signs } })
 sign_operand (Some w) sign at s = sign_exponent sign at s
 
--- where an operand is wanted
+-- one more piece where an operand is wanted
 abbrev pub begin : Mark → ℕ → State → Answer State
 begin (Digit d) at s = to_mode (Number (with_digit d (no_digits false at))) s
 begin Point at s = to_mode (Dot at) s
@@ -260,7 +270,7 @@ begin Left at s = opened at (Inside Plain s.pending) s
 begin Gap at s = to_mode Wanted s
 begin _ at s = fault Expression at
 
--- directly behind `<` or `>`
+-- one more piece directly behind `<` or `>`
 abbrev pub ordered : Mark → ℕ → State → Answer State
 ordered Equals at s = Ok (record s { mode = Wanted; pending = record s.pending { comparison = waiting_or_same s.pending.comparison } })
 ordered mark at s = begin mark at s
@@ -272,11 +282,11 @@ is_half Ampersand Ampersand = true
 is_half Bar Bar = true
 is_half _ _ = false
 
--- directly behind the first half of an operator
+-- one more piece directly behind the first half of an operator
 abbrev pub half : Mark → Mark → ℕ → State → Answer State
 half wanted mark at s = if is_half wanted mark then to_mode Wanted s else fault Expression at
 
--- behind the name of a function
+-- one more piece behind the name of a function
 abbrev pub named : Bracket → Mark → ℕ → State → Answer State
 named bracket Left at s = opened at (Inside bracket s.pending) s
 named bracket Gap at s = to_mode (Named bracket) s
@@ -290,10 +300,18 @@ operator o mode at x s = Ok (record s { mode = mode; pending = waits o at x s.pe
 abbrev pub comparison : Operator → Mode → ℕ → Found → State → Answer State
 comparison o mode at x s = if is_some s.pending.comparison then fault Expression at else operator o mode at x s
 
--- behind an operand
+-- a number in a unit
+abbrev pub unit_found : FontUnits → Unit → ℕ → Found → Found
+unit_found font unit at x = x >>= λ v. placed at (in_unit font unit v)
+
+-- radians in degrees
+abbrev pub degrees_found : ℕ → Found → Found
+degrees_found at x = x >>= λ v. placed at (in_degrees v)
+
+-- one more piece behind an operand
 abbrev pub after : FontUnits → Found → Mark → ℕ → State → Answer State
-after font x (Measure unit) at s = Ok (record s { mode = After (x >>= λ v. placed at (in_unit font unit v)); unit = true })
-after font x Radian at s = to_mode (After (x >>= λ v. placed at (in_degrees v))) s
+after font x (Measure unit) at s = Ok (record s { mode = After (unit_found font unit at x); unit = true })
+after font x Radian at s = to_mode (After (degrees_found at x)) s
 after font x Caret at s = operator Raise Wanted at x s
 after font x Star at s = operator Multiply Wanted at x s
 after font x Slash at s = operator Divide Wanted at x s
@@ -312,24 +330,24 @@ after font x Right at s = right at (closed_behind x s).value (closed_behind x s)
 after font x Gap at s = to_mode (After x) s
 after font x _ at s = fault Expression at
 
--- behind the point of a decimal that has no digit yet
+-- one more piece behind the point of a decimal that has no digit yet
 abbrev pub dot : ℕ → Mark → ℕ → State → Answer State
 dot place (Digit d) at s = to_mode (Number (with_digit d (no_digits true place))) s
 dot place _ at s = fault Expression at
 
--- behind a decimal and perhaps gaps
+-- one more piece behind a decimal and perhaps gaps
 abbrev pub measured : FontUnits → Decimal → Mark → ℕ → State → Answer State
 measured font n (Measure unit) at s = Ok (record s { mode = After (unit_value font unit n); unit = true })
 measured font n Gap at s = to_mode (Measured n) s
 measured font n mark at s = after font (plain_value font n) mark at s
 
--- directly behind a decimal
+-- one more piece directly behind a decimal
 abbrev pub number : FontUnits → Decimal → Mark → ℕ → State → Answer State
 number font n (Digit d) at s = to_mode (Number (with_digit d n)) s
 number font n Point at s = if n.pointed then fault Expression at else to_mode (Number (with_point n)) s
 number font n mark at s = measured font n mark at s
 
--- in a mode
+-- one more piece in a mode
 abbrev pub step_in : FontUnits → Mode → Mark → ℕ → State → Answer State
 step_in font Wanted mark at s = begin mark at s
 step_in font Ordered mark at s = ordered mark at s

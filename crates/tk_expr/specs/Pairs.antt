@@ -1,6 +1,6 @@
 -- The numbers of a coordinate: `x,y`, `a:r` or `a:r and s`.
-use Rattle.std.specs.Prelude.{ℕ, ◌+◌, ◌-◌, Bool, true, false, ◌&&◌, ◌||◌, ◌==◌, is_some, if◌then◌else◌, List, [], ◌∷◌, length, take, drop, Option, Some, None, option_map, Ok, ℤ}
-use Rattle.std.specs.List.{prefix_len, suffix_len}
+use Rattle.std.specs.Prelude.{ℕ, ◌+◌, ◌-◌, Bool, true, false, ◌&&◌, ◌||◌, ◌==◌, is_some, if◌then◌else◌, List, [], ◌∷◌, take, drop, Option, Some, None, option_map, unwrap_or, Ok, ℤ}
+use Rattle.std.specs.List.{prefix_len, list_all}
 use Rattle.tk_num.specs.Number.{scaled, product}
 use Rattle.tk_num.specs.Angle.{sine, cosine}
 use Rattle.tk_item.specs.declared.Point.{Point}
@@ -36,15 +36,18 @@ abbrev pub is_char : ℕ → Sign → Bool
 is_char c (A_char d) = d == c
 is_char c _ = false
 
+-- that character in front
+abbrev pub begins_char : ℕ → List Token → Bool
+begins_char c [] = false
+begins_char c (t ∷ ts) = is_char c t.sign
+
 -- `,`
 abbrev pub is_comma : List Token → Bool
-is_comma [] = false
-is_comma (t ∷ ts) = is_char 44 t.sign
+is_comma ts = begins_char 44 ts
 
 -- `,` or `:`
 abbrev pub is_comma_or_colon : List Token → Bool
-is_comma_or_colon [] = false
-is_comma_or_colon (t ∷ ts) = is_char 44 t.sign || is_char 58 t.sign
+is_comma_or_colon ts = begins_char 44 ts || begins_char 58 ts
 
 -- `a`, `n` and `d`
 abbrev pub is_and : List Token → Bool
@@ -58,23 +61,37 @@ abbrev pub is_space : Sign → Bool
 is_space A_space = true
 is_space _ = false
 
--- tokens without the gaps at their ends
-unfoldable pub trimmed : List Token → List Token
-trimmed ts = let inner = drop (prefix_len (λ (t : Token). is_space t.sign) ts) ts in take (length inner - suffix_len (λ (t : Token). is_space t.sign) inner) inner
+-- a token that is a gap
+abbrev pub is_space_token : Token → Bool
+is_space_token t = is_space t.sign
 
--- behind a `{`, so many braces are open up to the last token, which closes the last of them
-abbrev pub closes_last : ℕ → List Token → Bool
-closes_last depth [] = false
-closes_last depth (t ∷ ts) = if depth_behind t.sign depth == 0 then length ts == 0 else closes_last (depth_behind t.sign depth) ts
+-- `{`
+abbrev pub is_open : Sign → Bool
+is_open Opens = true
+is_open _ = false
 
--- the tokens are one group in braces
-abbrev pub is_group : List Token → Bool
-is_group [] = false
-is_group (t ∷ ts) = (depth_behind t.sign 0 == 1) && closes_last 1 ts
+-- the tokens after the gaps in front
+abbrev pub after_spaces : List Token → List Token
+after_spaces ts = drop (prefix_len is_space_token ts) ts
 
--- a part of a coordinate: a group that is all of it, gaps apart, loses its braces
+-- how many tokens stand before the brace that closes the last open one
+abbrev pub closing : ℕ → List Token → Option ℕ
+closing depth [] = None
+closing depth (t ∷ ts) = if depth_behind t.sign depth == 0 then Some 0 else option_map (λ n. n + 1) (closing (depth_behind t.sign depth) ts)
+
+-- behind a `{` the tokens up to its `}`, where only gaps stand behind that
+abbrev pub group_at : List Token → Option ℕ → Option (List Token)
+group_at ts None = None
+group_at ts (Some n) = if list_all is_space_token (drop (n + 1) ts) then Some (take n ts) else None
+
+-- what stands in the braces of tokens that are one group
+abbrev pub group : List Token → Option (List Token)
+group [] = None
+group (t ∷ ts) = if is_open t.sign then group_at ts (closing 1 ts) else None
+
+-- a part of a coordinate: where it is one group, gaps apart, it is what stands in the braces
 unfoldable pub part : List Token → List Token
-part ts = if is_group (trimmed ts) then take (length (trimmed ts) - 2) (drop 1 (trimmed ts)) else ts
+part ts = unwrap_or (group (after_spaces ts)) ts
 
 -- the value of a part
 abbrev pub part_value : FontUnits → ℕ → List Token → Answer Value

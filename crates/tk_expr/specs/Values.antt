@@ -52,10 +52,15 @@ prefixed Negate x = neg_ℤ x
 prefixed Keep x = x
 prefixed Not x = truth (not (is_true x))
 
+-- one more product by x
+abbrev pub times : ℤ → Result ℤ NumFault → Result ℤ NumFault
+times x (Ok p) = scaled (product p x)
+times x (Err e) = Err e
+
 -- n products by x, from one on
 unfoldable pub power : ℤ → ℕ → Result ℤ NumFault
 power x zero = Ok (pos 65536)
-power x (suc n) = elim (power x n) as (λ _. Result ℤ NumFault) [ Ok p ↦ scaled (product p x) | Err e ↦ Err e ]
+power x (suc n) = times x (power x n)
 
 -- one by a number, or its fault
 abbrev pub inverse : Result ℤ NumFault → Result ℤ NumFault

@@ -1,12 +1,23 @@
 //! Expressions: the value of a text in the grammar of TikZ's arithmetic, and the pairs of coordinates.
 #![tactic(auto)]
 
+mod evaluation;
+mod frames;
 mod laws;
 mod machine;
 mod number;
 mod operators;
+mod pairs;
 mod pieces;
+mod settle;
+mod steps;
+#[cfg(test)]
+mod tests;
+mod values;
 
+pub use evaluation::eval;
+pub use laws::{a_text_has_one_answer, evaluated_is_the_answer};
+pub use pairs::{pair, vector};
 use tk_num::Scaled;
 
 /// The units of the font, in scaled points.

@@ -1,13 +1,10 @@
 //! The machine that reads an expression piece by piece.
 
+use crate::frames::Frames;
 use crate::number::Decimal;
 use crate::operators::{Operator, Signs};
 use crate::pieces::{Mark, Most, One, Two};
-use tk_num::Scaled;
-use tk_token::Fault;
-
-/// A number, or the first fault that was met on the way to it.
-pub type Found = Result<Scaled, Fault>;
+use crate::values::Found;
 
 /// An operator with its left operand, which waits for the right one.
 #[derive(Clone, Copy)]
@@ -77,4 +74,14 @@ pub enum Mode {
     Measured(Decimal),
     /// Any other operand.
     After(Found),
+}
+
+/// What was read last; what waits in the innermost expression; what is open, innermost first; and whether a unit was
+/// read.
+#[derive(Drop)]
+pub struct State {
+    pub mode: Mode,
+    pub pending: Pending,
+    pub frames: Frames,
+    pub unit: bool,
 }

@@ -1,4 +1,10 @@
-//! The operators of an expression.
+//! The operators of an expression, and the signs before its operands.
+
+ghost use Rattle.std.specs.Prelude.{◌≡◌};
+ghost use Rattle.tk_expr.specs.Machine as spec;
+
+use crate::values::{Found, is_true, negated, truth};
+use tk_num::Scaled;
 
 /// An operator between two operands.
 #[derive(Clone, Copy)]
@@ -43,4 +49,68 @@ pub enum Truth {
 pub struct Signs {
     pub negative: bool,
     pub truth: Truth,
+}
+
+impl Signs {
+    /// The signs with one more further in. A `-` within a `!` changes nothing.
+    pub(crate) fn with(self, sign: Prefix) -> Signs
+        ensures { result ≡ spec.with_prefix sign self }
+    {
+        match sign {
+            Prefix::Negate => self.with_minus(),
+            Prefix::Keep => self,
+            Prefix::Not => Signs {
+                negative: self.negative,
+                truth: with_not(self.truth),
+            },
+        }
+    }
+
+    fn with_minus(self) -> Signs
+        ensures { result ≡ spec.with_minus self.truth self }
+    {
+        match self.truth {
+            Truth::Itself => Signs {
+                negative: !self.negative,
+                truth: self.truth,
+            },
+            Truth::Affirmed | Truth::Denied => self,
+        }
+    }
+
+    /// What the signs make of a number.
+    fn of(self, x: Scaled) -> Scaled
+        ensures { result ≡ spec.signed_by self x }
+    {
+        if self.negative {
+            return negated(as_truth(self.truth, x));
+        }
+        as_truth(self.truth, x)
+    }
+
+    /// What the signs make of a number that may be a fault.
+    pub(crate) fn of_found(self, x: Found) -> Found
+        ensures { result ≡ spec.signed_found self x }
+    {
+        Ok(self.of(x?))
+    }
+}
+
+fn with_not(truth: Truth) -> Truth
+    ensures { result ≡ spec.with_not truth }
+{
+    match truth {
+        Truth::Itself | Truth::Affirmed => Truth::Denied,
+        Truth::Denied => Truth::Affirmed,
+    }
+}
+
+fn as_truth(form: Truth, x: Scaled) -> Scaled
+    ensures { result ≡ spec.as_truth form x }
+{
+    match form {
+        Truth::Itself => x,
+        Truth::Affirmed => truth(is_true(x)),
+        Truth::Denied => truth(!is_true(x)),
+    }
 }

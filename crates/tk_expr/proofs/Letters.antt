@@ -1,0 +1,96 @@
+-- Runs of letters in front of tokens.
+use Rattle.std.proofs.Common.{◌≡◌, ℕ, ◌<◌, ◌≤◌, Bool, true, false, ◌&&◌, leb, List, [], ◌∷◌, length, map, take, drop, refl, ap, arith, one-add}
+use Rattle.std.specs.List.{prefix_len}
+use Rattle.std.specs.Str.{bytes_eq}
+use Rattle.std.proofs.lemmas.Bool.{leb-true}
+use Rattle.std.proofs.lemmas.Bool.Decides.{nat_tests}
+use Rattle.std.proofs.lemmas.Slice.Eq.{bytes_eq-Decides}
+use Rattle.tk_token.proofs.Ascii.{front_and, back_and}
+use Rattle.tk_token.specs.Cutting.{is_letter}
+use Rattle.tk_token.specs.Token.{token_of}
+use Rattle.tk_token.specs.declared.Kind.{Kind}
+use Rattle.tk_token.specs.declared.Kind.TheVariants.{Char, Word, Symbol, Open, Close, Param, Arg, Space}
+use Rattle.tk_token.specs.declared.Tok.{Tok}
+use Rattle.tk_expr.specs.declared.pieces.Mark.TheVariants.{Word as Word_mark}
+use Rattle.tk_expr.specs.Pieces.{Lump, Run, with_letter, lumps_of, piece_of, pieces_of, word_mark, Row, rows, mark_in}
+use Rattle.tk_expr.specs.Runs.{is_letter_kind, is_letter_tok, letter_of, letter_of_kind}
+
+-- the lumps of tokens whose words go by their names
+lumps : List (List ℕ) → List Tok → List Lump
+lumps names toks = lumps_of (map (token_of names) toks)
+
+-- a letter before tokens joins the letters in front of them
+abbrev Joins : List (List ℕ) → List Tok → Type 0
+Joins names ts = (c at : ℕ) → with_letter c at (lumps_of (map (token_of names) ts)) ≡ Run (c ∷ map letter_of (take (prefix_len is_letter_tok ts) ts)) at ∷ lumps_of (map (token_of names) (drop (prefix_len is_letter_tok ts) ts))
+
+join_char : (names : List (List ℕ)) (d place : ℕ) (us : List Tok) (b : Bool) → is_letter d ≡ b → Joins names us → Joins names (record { kind = Char d; at = place } ∷ us)
+join_char names d place us true e ih c at = rw (e, one-add) (ap (with_letter c at) (ih d place))
+join_char names d place us false e ih c at = rw (e, e) refl
+
+join_kind : (names : List (List ℕ)) (kind : Kind) (place : ℕ) (us : List Tok) → Joins names us → Joins names (record { kind = kind; at = place } ∷ us)
+join_kind names (Char d) place us ih c at = join_char names d place us (is_letter d) refl ih c at
+join_kind names (Word n) place us ih c at = refl
+join_kind names (Symbol d) place us ih c at = refl
+join_kind names Open place us ih c at = refl
+join_kind names Close place us ih c at = refl
+join_kind names Param place us ih c at = refl
+join_kind names (Arg n) place us ih c at = refl
+join_kind names Space place us ih c at = refl
+
+joins : (names : List (List ℕ)) (ts : List Tok) → Joins names ts
+joins names [] c at = refl
+joins names (t ∷ ts) c at = join_kind names t.kind t.at ts (joins names ts) c at
+
+run_of : (names : List (List ℕ)) (kind : Kind) (at : ℕ) (ts : List Tok) → is_letter_kind kind ≡ true
+    → lumps_of (map (token_of names) (record { kind = kind; at = at } ∷ ts)) ≡ Run (map letter_of (take (prefix_len is_letter_tok (record { kind = kind; at = at } ∷ ts)) (record { kind = kind; at = at } ∷ ts))) at ∷ lumps_of (map (token_of names) (drop (prefix_len is_letter_tok (record { kind = kind; at = at } ∷ ts)) (record { kind = kind; at = at } ∷ ts)))
+run_of names (Char c) at ts e = rw (e, one-add) (joins names ts c at)
+run_of names (Word n) at ts e = absurd (cc)
+run_of names (Symbol d) at ts e = absurd (cc)
+run_of names Open at ts e = absurd (cc)
+run_of names Close at ts e = absurd (cc)
+run_of names Param at ts e = absurd (cc)
+run_of names (Arg n) at ts e = absurd (cc)
+run_of names Space at ts e = absurd (cc)
+
+-- a letter in front makes a piece with the letters behind it
+pub letters_in_front : (names : List (List ℕ)) (list : List Tok) (t : Tok) (ts : List Tok) (n : ℕ) → list ≡ t ∷ ts → is_letter_kind t.kind ≡ true → n ≡ prefix_len is_letter_tok list
+    → pieces_of (map (token_of names) list) ≡ record { mark = word_mark (map letter_of (take n list)); at = t.at } ∷ pieces_of (map (token_of names) (drop n list))
+letters_in_front names list t ts n is letter count = rw (count, is) (ap (map piece_of) (run_of names t.kind t.at ts letter))
+
+small_letter : (c : ℕ) → is_letter c ≡ true → c < 128
+small_letter c h = grind (arith, nat_tests)
+
+-- letters are ASCII
+pub letter_is_small : (kind : Kind) → is_letter_kind kind ≡ true → letter_of_kind kind < 128
+letter_is_small (Char c) e = small_letter c e
+letter_is_small (Word n) e = omega arith
+letter_is_small (Symbol d) e = omega arith
+letter_is_small Open e = omega arith
+letter_is_small Close e = omega arith
+letter_is_small Param e = omega arith
+letter_is_small (Arg n) e = omega arith
+letter_is_small Space e = omega arith
+
+-- ---- words that are longer than each name
+
+-- texts of different lengths differ
+other_length : (xs ys : List ℕ) (b : Bool) → bytes_eq xs ys ≡ b → length ys < length xs → b ≡ false
+other_length xs ys true e more = absurd (let same = (bytes_eq-Decides xs ys).0 e in omega (arith, ap length same))
+other_length xs ys false e more = refl
+
+short_rows : List Row → Bool
+short_rows [] = true
+short_rows (row ∷ rows) = leb (length row.text) 6 && short_rows rows
+
+no_row : (rows : List Row) (text : List ℕ) → short_rows rows ≡ true → 6 < length text → mark_in rows text ≡ Word_mark
+unfolding short_rows
+no_row [] text h long = refl
+no_row (row ∷ rows) text h long =
+    let short : length row.text ≤ 6 = leb-true _ _ (front_and _ _ h) in
+    let other : bytes_eq text row.text ≡ false = other_length text row.text (bytes_eq text row.text) refl (omega arith) in
+    rw other (no_row rows text (back_and _ _ h) long)
+
+-- a long word is no name
+pub long_word : (text : List ℕ) → 6 < length text → word_mark text ≡ Word_mark
+unfolding word_mark short_rows
+long_word text long = no_row rows text refl long

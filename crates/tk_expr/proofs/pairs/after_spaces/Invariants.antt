@@ -1,0 +1,10 @@
+use Rattle.std.proofs.Common.{◌≡◌, ℕ, List, length}
+use Rattle.tk_expr.specs.Pairs as spec
+use Rattle.tk_expr.specs.Runs.{tokens_of}
+use Rattle.tk_expr.proofs.pairs.after_spaces.Given as goal
+
+abbrev pub invariant-loop-first : goal.invariant-loop-first
+invariant-loop-first l = (names : List (List ℕ)) → spec.after_spaces (tokens_of names l.list) ≡ spec.after_spaces (tokens_of names l.rest)
+
+abbrev pub decreases-loop-first : goal.decreases-loop-first
+decreases-loop-first l = length l.rest
