@@ -33,6 +33,10 @@ pub only_right : {A B : Type 0} → (A → ⊥) → A ⊎ B → B
 only_right non (inl a) = absurd (non a)
 only_right non (inr b) = b
 
+-- what no mark of that name does
+never : Behind → Found → ℕ → List Piece → ⊥ → ⊥
+never k x at ps h = h
+
 module _ (font : FontUnits) where
   -- ---- what refuses a mark
 
@@ -123,7 +127,7 @@ module _ (font : FontUnits) where
     caret_same =
         let k = ends_in font fs v in
         let f = raise_same at x p k ps in (
-          λ h. f.0 (only_right (shut_signed Caret refl refl (λ k x at ps h. h) p fs v (λ k x at ps h. h) (λ k x at ps h. h) (λ k x at ps h. h) (λ k x at ps h. h) (λ k x at ps h. h) (powered p x) at ps) (operator_in font Caret at ps (after_signed font p k) refl (from_power font Caret refl p k x at ps (λ k x at ps h. h) h))),
+          λ h. f.0 (only_right (shut_signed Caret refl refl never p fs v never never never never never (powered p x) at ps) (operator_in font Caret at ps (after_signed font p k) refl (from_power font Caret refl p k x at ps never h))),
           λ h. to_power font p k x (piece Caret at ∷ ps) (operator_on font Powers (after_signed font p k) (powered p x) Caret at ps (f.1 h)),
         )
 
@@ -131,7 +135,7 @@ module _ (font : FontUnits) where
     star_same =
         let k = ends_in font fs v in
         let f = fresh_product font (product_waits Multiply at x p) k ps in (
-          λ h. f.0 (only_right (shut_product Star refl refl (λ k x at ps h. h) p fs v (λ k x at ps h. h) (λ k x at ps h. h) (λ k x at ps h. h) (λ k x at ps h. h) (multiplied p x) at ps) (operator_in font Star at ps (after_product font p k) refl (from_factor font Star refl p k x at ps (λ k x at ps h. h) (λ k x at ps h. h) h))),
+          λ h. f.0 (only_right (shut_product Star refl refl never p fs v never never never never (multiplied p x) at ps) (operator_in font Star at ps (after_product font p k) refl (from_factor font Star refl p k x at ps never never h))),
           λ h. to_factor font p k x (piece Star at ∷ ps) (operator_on font Products (after_product font p k) (multiplied p x) Star at ps (f.1 h)),
         )
 
@@ -139,7 +143,7 @@ module _ (font : FontUnits) where
     slash_same =
         let k = ends_in font fs v in
         let f = fresh_product font (product_waits Divide at x p) k ps in (
-          λ h. f.0 (only_right (shut_product Slash refl refl (λ k x at ps h. h) p fs v (λ k x at ps h. h) (λ k x at ps h. h) (λ k x at ps h. h) (λ k x at ps h. h) (multiplied p x) at ps) (operator_in font Slash at ps (after_product font p k) refl (from_factor font Slash refl p k x at ps (λ k x at ps h. h) (λ k x at ps h. h) h))),
+          λ h. f.0 (only_right (shut_product Slash refl refl never p fs v never never never never (multiplied p x) at ps) (operator_in font Slash at ps (after_product font p k) refl (from_factor font Slash refl p k x at ps never never h))),
           λ h. to_factor font p k x (piece Slash at ∷ ps) (operator_on font Products (after_product font p k) (multiplied p x) Slash at ps (f.1 h)),
         )
 
@@ -147,7 +151,7 @@ module _ (font : FontUnits) where
     plus_same =
         let k = ends_in font fs v in
         let f = fresh_sum font (sum_waits Add at x p) k ps in (
-          λ h. f.0 (only_right (shut_sum Plus refl refl (λ k x at ps h. h) p fs v (λ k x at ps h. h) (λ k x at ps h. h) (λ k x at ps h. h) (added p x) at ps) (operator_in font Plus at ps (after_sum font p k) refl (from_summand font Plus refl p k x at ps (λ k x at ps h. h) (λ k x at ps h. h) (λ k x at ps h. h) h))),
+          λ h. f.0 (only_right (shut_sum Plus refl refl never p fs v never never never (added p x) at ps) (operator_in font Plus at ps (after_sum font p k) refl (from_summand font Plus refl p k x at ps never never never h))),
           λ h. to_summand font p k x (piece Plus at ∷ ps) (operator_on font Sums (after_sum font p k) (added p x) Plus at ps (f.1 h)),
         )
 
@@ -155,7 +159,7 @@ module _ (font : FontUnits) where
     minus_same =
         let k = ends_in font fs v in
         let f = fresh_sum font (sum_waits Subtract at x p) k ps in (
-          λ h. f.0 (only_right (shut_sum Minus refl refl (λ k x at ps h. h) p fs v (λ k x at ps h. h) (λ k x at ps h. h) (λ k x at ps h. h) (added p x) at ps) (operator_in font Minus at ps (after_sum font p k) refl (from_summand font Minus refl p k x at ps (λ k x at ps h. h) (λ k x at ps h. h) (λ k x at ps h. h) h))),
+          λ h. f.0 (only_right (shut_sum Minus refl refl never p fs v never never never (added p x) at ps) (operator_in font Minus at ps (after_sum font p k) refl (from_summand font Minus refl p k x at ps never never never h))),
           λ h. to_summand font p k x (piece Minus at ∷ ps) (operator_on font Sums (after_sum font p k) (added p x) Minus at ps (f.1 h)),
         )
 
@@ -163,7 +167,7 @@ module _ (font : FontUnits) where
     both_same =
         let k = ends_in font fs v in
         let f = λ (qs : List Piece). fresh_conjunction font (waits Both at x p) k qs in (
-          λ h. let (n, qs, e, g) = only_right (shut_conjunction Ampersand refl refl (λ k x at ps h. h) p fs v (λ k x at ps h. h) (conjoined p x) at ps) (operator_in font Ampersand at ps (after_conjunction font p k) refl (from_conjunct font Ampersand refl p k x at ps (λ k x at ps h. h) (λ k x at ps h. h) (λ k x at ps h. h) (λ k x at ps h. h) (λ k x at ps h. h) h)) in (n, qs, e, (f qs).0 g),
+          λ h. let (n, qs, e, g) = only_right (shut_conjunction Ampersand refl refl never p fs v never (conjoined p x) at ps) (operator_in font Ampersand at ps (after_conjunction font p k) refl (from_conjunct font Ampersand refl p k x at ps never never never never never h)) in (n, qs, e, (f qs).0 g),
           λ (n, qs, e, g). to_conjunct font p k x (piece Ampersand at ∷ ps) (operator_on font Conjunctions (after_conjunction font p k) (conjoined p x) Ampersand at ps (n, qs, e, (f qs).1 g)),
         )
 
@@ -171,7 +175,7 @@ module _ (font : FontUnits) where
     either_same =
         let k = ends_in font fs v in
         let f = λ (qs : List Piece). fresh_disjunction font (waits Either at x p) k qs in (
-          λ h. let (n, qs, e, g) = only_right (shut_disjunction Bar refl refl (λ k x at ps h. h) p fs v (disjoined p x) at ps) (operator_in font Bar at ps (after_disjunction font k) refl (from_disjunct font Bar refl p k x at ps (λ k x at ps h. h) (λ k x at ps h. h) (λ k x at ps h. h) (λ k x at ps h. h) (λ k x at ps h. h) (λ k x at ps h. h) h)) in (n, qs, e, (f qs).0 g),
+          λ h. let (n, qs, e, g) = only_right (shut_disjunction Bar refl refl never p fs v (disjoined p x) at ps) (operator_in font Bar at ps (after_disjunction font k) refl (from_disjunct font Bar refl p k x at ps never never never never never never h)) in (n, qs, e, (f qs).0 g),
           λ (n, qs, e, g). to_disjunct font p k x (piece Bar at ∷ ps) (operator_on font Disjunctions (after_disjunction font k) (disjoined p x) Bar at ps (n, qs, e, (f qs).1 g)),
         )
 
@@ -233,15 +237,15 @@ module _ (font : FontUnits) where
   end_is m at x s r g c n0 n1 n2 n3 n4 n5 n6 h =
       sure (sure_as font
       (λ ps v. end_same m g c n0 n1 n2 n3 n4 n5 n6 x s.pending (ends_in font s.frames v) at ps)
-      (λ k ps v. end_same Right refl (λ k x at ps h. h) (λ k x at ps h. h) (λ k x at ps h. h) (λ k x at ps h. h) (λ k x at ps h. h) (λ k x at ps h. h) (λ k x at ps h. h) (λ k x at ps h. h) x s.pending (ends_in font s.frames v) k ps)
-      (λ k ps v. end_same Comma refl (λ k x at ps h. h) (λ k x at ps h. h) (λ k x at ps h. h) (λ k x at ps h. h) (λ k x at ps h. h) (λ k x at ps h. h) (λ k x at ps h. h) (λ k x at ps h. h) x s.pending (ends_in font s.frames v) k ps)
+      (λ k ps v. end_same Right refl never never never never never never never never x s.pending (ends_in font s.frames v) k ps)
+      (λ k ps v. end_same Comma refl never never never never never never never never x s.pending (ends_in font s.frames v) k ps)
       h)
 
   question_same : (at : ℕ) (x : Found) (p : Pending) (fs : List Frame) (ps : List Piece) (v : Found) → after_primary font p (ends_in font fs v) x (piece Question at ∷ ps) ↔ wants font None nothing (ends_in font (Then (disjoined p x) ∷ fs) v) ps
   question_same at x p fs ps v =
       let k = ends_in font fs v in
       let f = fresh_whole font (ends_in font (Then (disjoined p x) ∷ fs) v) ps in (
-        λ h. f.0 (only_right (no_ends font Question refl refl fs v (disjoined p x) at ps) (from_choice font Question refl p k x at ps (λ k x at ps h. h) (λ k x at ps h. h) (λ k x at ps h. h) (λ k x at ps h. h) (λ k x at ps h. h) (λ k x at ps h. h) (λ k x at ps h. h) h)),
+        λ h. f.0 (only_right (no_ends font Question refl refl fs v (disjoined p x) at ps) (from_choice font Question refl p k x at ps never never never never never never never h)),
         λ h. to_choice font p k x (piece Question at ∷ ps) (choice_on font k (disjoined p x) at ps (f.1 h)),
       )
 
@@ -254,14 +258,14 @@ module _ (font : FontUnits) where
   unit_same : (u : AUnit) (at : ℕ) (x : Found) (p : Pending) (fs : List Frame) (ps : List Piece) (v : Found) → after_primary font p (ends_in font fs v) x (piece (Measure u) at ∷ ps) ↔ after_primary font p (ends_in font fs v) (unit_found font u at x) ps
   unit_same u at x p fs ps v =
       let k = ends_in font fs v in (
-        λ h. only_right (shut_postfix (Measure u) refl refl (λ k x at ps h. h) p fs v (λ k x at ps h. h) (λ k x at ps h. h) (λ k x at ps h. h) (λ k x at ps h. h) (λ k x at ps h. h) (λ k x at ps h. h) x at ps) (operator_in font (Measure u) at ps (after_postfix font p k) refl h),
+        λ h. only_right (shut_postfix (Measure u) refl refl never p fs v never never never never never never x at ps) (operator_in font (Measure u) at ps (after_postfix font p k) refl h),
         λ h. operator_on font Postfixes (after_postfix font p k) x (Measure u) at ps h,
       )
 
   radians_same : (at : ℕ) (x : Found) (p : Pending) (fs : List Frame) (ps : List Piece) (v : Found) → after_primary font p (ends_in font fs v) x (piece Radian at ∷ ps) ↔ after_primary font p (ends_in font fs v) (radians_found at x) ps
   radians_same at x p fs ps v =
       let k = ends_in font fs v in (
-        λ h. only_right (shut_postfix Radian refl refl (λ k x at ps h. h) p fs v (λ k x at ps h. h) (λ k x at ps h. h) (λ k x at ps h. h) (λ k x at ps h. h) (λ k x at ps h. h) (λ k x at ps h. h) x at ps) (operator_in font Radian at ps (after_postfix font p k) refl h),
+        λ h. only_right (shut_postfix Radian refl refl never p fs v never never never never never never x at ps) (operator_in font Radian at ps (after_postfix font p k) refl h),
         λ h. operator_on font Postfixes (after_postfix font p k) x Radian at ps h,
       )
 
@@ -276,15 +280,15 @@ module _ (font : FontUnits) where
   after_is x Slash at s p t = operator_is Slash Divide Wanted at x s t tt (λ e. refl) refl (λ name os. refl) (λ name e. refl) (λ ps v. slash_same at x s.pending s.frames ps v)
   after_is x Plus at s p t = operator_is Plus Add Wanted at x s t tt (λ e. refl) refl (λ name os. refl) (λ name e. refl) (λ ps v. plus_same at x s.pending s.frames ps v)
   after_is x Minus at s p t = operator_is Minus Subtract Wanted at x s t tt (λ e. refl) refl (λ name os. refl) (λ name e. refl) (λ ps v. minus_same at x s.pending s.frames ps v)
-  after_is x Less at s p t = comparison_is Less refl refl (λ k x at ps h. h) (λ k x at ps h. h) (λ k x at ps h. h) (λ k x at ps h. h) (λ k x at ps h. h) (λ k x at ps h. h) (λ k x at ps h. h) Below Ordered at x s t tt (λ e. refl) refl (λ name os. refl) (λ name e. refl) (λ r c. tt) (λ ps v. (less_to at x s.pending (ends_in font s.frames v) ps, less_from at x s.pending (ends_in font s.frames v) ps))
-  after_is x Greater at s p t = comparison_is Greater refl refl (λ k x at ps h. h) (λ k x at ps h. h) (λ k x at ps h. h) (λ k x at ps h. h) (λ k x at ps h. h) (λ k x at ps h. h) (λ k x at ps h. h) Above Ordered at x s t tt (λ e. refl) refl (λ name os. refl) (λ name e. refl) (λ r c. tt) (λ ps v. (greater_to at x s.pending (ends_in font s.frames v) ps, greater_from at x s.pending (ends_in font s.frames v) ps))
-  after_is x Equals at s p t = comparison_is Equals refl refl (λ k x at ps h. h) (λ k x at ps h. h) (λ k x at ps h. h) (λ k x at ps h. h) (λ k x at ps h. h) (λ k x at ps h. h) (λ k x at ps h. h) Equal (Half Equals) at x s t tt (λ e. refl) refl (λ name os. refl) (λ name e. refl) (λ r c. tt) (λ ps v. equals_same at x s.pending (ends_in font s.frames v) ps)
-  after_is x Bang at s p t = comparison_is Bang refl refl (λ k x at ps h. h) (λ k x at ps h. h) (λ k x at ps h. h) (λ k x at ps h. h) (λ k x at ps h. h) (λ k x at ps h. h) (λ k x at ps h. h) Differs (Half Equals) at x s t tt (λ e. refl) refl (λ name os. refl) (λ name e. refl) (λ r c. tt) (λ ps v. differs_same at x s.pending (ends_in font s.frames v) ps)
+  after_is x Less at s p t = comparison_is Less refl refl never never never never never never never Below Ordered at x s t tt (λ e. refl) refl (λ name os. refl) (λ name e. refl) (λ r c. tt) (λ ps v. (less_to at x s.pending (ends_in font s.frames v) ps, less_from at x s.pending (ends_in font s.frames v) ps))
+  after_is x Greater at s p t = comparison_is Greater refl refl never never never never never never never Above Ordered at x s t tt (λ e. refl) refl (λ name os. refl) (λ name e. refl) (λ r c. tt) (λ ps v. (greater_to at x s.pending (ends_in font s.frames v) ps, greater_from at x s.pending (ends_in font s.frames v) ps))
+  after_is x Equals at s p t = comparison_is Equals refl refl never never never never never never never Equal (Half Equals) at x s t tt (λ e. refl) refl (λ name os. refl) (λ name e. refl) (λ r c. tt) (λ ps v. equals_same at x s.pending (ends_in font s.frames v) ps)
+  after_is x Bang at s p t = comparison_is Bang refl refl never never never never never never never Differs (Half Equals) at x s t tt (λ e. refl) refl (λ name os. refl) (λ name e. refl) (λ r c. tt) (λ ps v. differs_same at x s.pending (ends_in font s.frames v) ps)
   after_is x Ampersand at s p t = operator_is Ampersand Both (Half Ampersand) at x s t tt (λ e. refl) refl (λ name os. refl) (λ name e. refl) (λ ps v. both_same at x s.pending s.frames ps v)
   after_is x Bar at s p t = operator_is Bar Either (Half Bar) at x s t tt (λ e. refl) refl (λ name os. refl) (λ name e. refl) (λ ps v. either_same at x s.pending s.frames ps v)
   after_is x Question at s p t = opened_is _ _ _ (Unnamed font) Question at (Then (disjoined s.pending x)) s (λ ps v. question_same at x s.pending s.frames ps v) (record { valid = record { half = tt; tidy = λ e. refl; frames = t }; unit_is = refl; opens = λ name os e h. ((tt, h), refl) })
-  after_is x Colon at s p t = end_is Colon at x s _ refl (λ k x at ps h. h) (λ k x at ps h. h) (λ k x at ps h. h) (λ k x at ps h. h) (λ k x at ps h. h) (λ k x at ps h. h) (λ k x at ps h. h) (λ k x at ps h. h) (colon_is font s.frames (disjoined s.pending x) s.unit at s refl t)
-  after_is x Comma at s p t = end_is Comma at x s _ refl (λ k x at ps h. h) (λ k x at ps h. h) (λ k x at ps h. h) (λ k x at ps h. h) (λ k x at ps h. h) (λ k x at ps h. h) (λ k x at ps h. h) (λ k x at ps h. h) (comma_is font s.frames (disjoined s.pending x) s.unit at s refl t)
-  after_is x Right at s p t = end_is Right at x s _ refl (λ k x at ps h. h) (λ k x at ps h. h) (λ k x at ps h. h) (λ k x at ps h. h) (λ k x at ps h. h) (λ k x at ps h. h) (λ k x at ps h. h) (λ k x at ps h. h) (right_is font s.frames (disjoined s.pending x) s.unit at s refl t)
+  after_is x Colon at s p t = end_is Colon at x s _ refl never never never never never never never never (colon_is font s.frames (disjoined s.pending x) s.unit at s refl t)
+  after_is x Comma at s p t = end_is Comma at x s _ refl never never never never never never never never (comma_is font s.frames (disjoined s.pending x) s.unit at s refl t)
+  after_is x Right at s p t = end_is Right at x s _ refl never never never never never never never never (right_is font s.frames (disjoined s.pending x) s.unit at s refl t)
   after_is x Gap at s p t = sure (steps (record s { mode = After x }) (λ ps v. gap_same at x s.pending s.frames ps v) (record { valid = record { half = tt; tidy = p; frames = t }; unit_is = refl; opens = λ name os e h. (h, e) }) (λ le. le))
-  after_is x m at s p t = nothing_is m at x s refl refl (λ k x at ps h. h) (λ k x at ps h. h) (λ k x at ps h. h) (λ k x at ps h. h) (λ k x at ps h. h) (λ k x at ps h. h) (λ k x at ps h. h) (λ k x at ps h. h) (λ r c. tt)
+  after_is x m at s p t = nothing_is m at x s refl refl never never never never never never never never (λ r c. tt)

@@ -307,3 +307,7 @@ module _ (font : FontUnits) where
 pub evaluated_is_the_answer : (font : FontUnits) (at : ℕ) (tokens : List Token) → Evaluates font at tokens (evaluated font at tokens)
 unfolding evaluated
 evaluated_is_the_answer font at tokens = answered font (end_of at tokens) [] (pieces_of tokens) start (reached_start font) (proper tokens)
+
+-- the same for an answer that is known to be the machine's
+pub answer_means : (font : FontUnits) (at : ℕ) (tokens : List Token) (r : Answer Value) → r ≡ evaluated font at tokens → Evaluates font at tokens r
+answer_means font at tokens r is = subst (λ (r : Answer Value). Evaluates font at tokens r) (sym is) (evaluated_is_the_answer font at tokens)

@@ -40,6 +40,10 @@ some_not_none e f = true≢false (ap is_some (sym f ∙ e))
 pub same_some : {A : Type 0} {a b : A} {o : Option A} → o ≡ Some a → o ≡ Some b → a ≡ b
 same_some {a = a} e f = ap (λ o. elim o as (λ _. _) [ None ↦ a | Some x ↦ x ]) (sym e ∙ f)
 
+-- what no mark of that name does
+never : Behind → ℕ → List Piece → ⊥ → ⊥
+never k at ps h = h
+
 module _ (font : FontUnits) where
   -- ---- where an operand is wanted
 
@@ -75,7 +79,7 @@ module _ (font : FontUnits) where
   mode_is m at mode s p t half u same named iff = sure (steps (record s { mode = mode }) iff (kept_mode font s t m at mode s.pending half p u same named) (λ le. le))
 
   refused_is : (m : Mark) → is_gap m ≡ false → prefix_of m ≡ None → exponent_sign m ≡ None → IsNoPrimary m → (at : ℕ) (s : State) → Tidy font s.pending → WantsIs s m at (fault Expression at)
-  refused_is m g e f non at s t = sure (refuses (λ ps v h. wants_not m g e f non at s t ps v h) (no_miscount font _ _ s.frames m (λ k ps v h. wants_not Right refl refl refl (λ k at ps h. h) k s t ps v h) (λ k ps v h. wants_not Comma refl refl refl (λ k at ps h. h) k s t ps v h)))
+  refused_is m g e f non at s t = sure (refuses (λ ps v h. wants_not m g e f non at s t ps v h) (no_miscount font _ _ s.frames m (λ k ps v h. wants_not Right refl refl refl never k s t ps v h) (λ k ps v h. wants_not Comma refl refl refl never k s t ps v h)))
 
   -- ---- signs
 
@@ -109,12 +113,12 @@ module _ (font : FontUnits) where
         (kept_mode font s t m at Wanted q tt (λ e. absurd (some_not_none e is)) u same (λ name e. named name at)) (λ le. le))
 
   minus_is : (w : Option Waiting) (at : ℕ) (s : State) → s.pending.power ≡ w → Tidy font s.pending → FramesTidy font s.frames → WantsIs s Minus at (sign_operand w Negate at s)
-  minus_is None at s e p t = operand_sign Minus refl (λ k at ps h. h) refl (λ name os. refl) (λ name at. refl) Negate refl at s e p t
-  minus_is (Some w) at s e p t = exponent_sign_is Minus refl (λ k at ps h. h) refl (λ name os. refl) (λ name at. refl) Negate refl at s w e p t
+  minus_is None at s e p t = operand_sign Minus refl never refl (λ name os. refl) (λ name at. refl) Negate refl at s e p t
+  minus_is (Some w) at s e p t = exponent_sign_is Minus refl never refl (λ name os. refl) (λ name at. refl) Negate refl at s w e p t
 
   plus_is : (w : Option Waiting) (at : ℕ) (s : State) → s.pending.power ≡ w → Tidy font s.pending → FramesTidy font s.frames → WantsIs s Plus at (sign_operand w Keep at s)
-  plus_is None at s e p t = operand_sign Plus refl (λ k at ps h. h) refl (λ name os. refl) (λ name at. refl) Keep refl at s e p t
-  plus_is (Some w) at s e p t = exponent_sign_is Plus refl (λ k at ps h. h) refl (λ name os. refl) (λ name at. refl) Keep refl at s w e p t
+  plus_is None at s e p t = operand_sign Plus refl never refl (λ name os. refl) (λ name at. refl) Keep refl at s e p t
+  plus_is (Some w) at s e p t = exponent_sign_is Plus refl never refl (λ name os. refl) (λ name at. refl) Keep refl at s w e p t
 
   no_exponent : (w : Waiting) (at : ℕ) (p : Pending) (k : Behind) (ps : List Piece) → p.power ≡ Some w → Tidy font p → wants font p.power p k (piece Bang at ∷ ps) → ⊥
   no_exponent w at p k ps is t h = by (wants_or font (Some w) p k Bang at ps refl is t (subst (λ (w : Option Waiting). wants font w p k (piece Bang at ∷ ps)) is h))
@@ -124,7 +128,7 @@ module _ (font : FontUnits) where
       by (inr h) = primary_in font Bang at ps (after_primary font p k) refl h
 
   bang_is : (w : Option Waiting) (at : ℕ) (s : State) → s.pending.power ≡ w → Tidy font s.pending → FramesTidy font s.frames → WantsIs s Bang at (sign_operand w Not at s)
-  bang_is None at s e p t = operand_sign Bang refl (λ k at ps h. h) refl (λ name os. refl) (λ name at. refl) Not refl at s e p t
+  bang_is None at s e p t = operand_sign Bang refl never refl (λ name os. refl) (λ name at. refl) Not refl at s e p t
   bang_is (Some w) at s e p t = sure (refuses (λ ps v h. no_exponent w at s.pending (ends_in font s.frames v) ps e p h) tt)
 
   -- ---- all marks
@@ -144,7 +148,7 @@ module _ (font : FontUnits) where
   begin_is Bang at s small p t = bang_is s.pending.power at s refl p t
   begin_is Left at s small p t = opened_is font _ _ _ (Unnamed font) Left at (Inside Plain s.pending) s (λ ps v. left_same at s p ps v) (record { valid = record { half = tt; tidy = λ e. refl; frames = (p, t) }; unit_is = refl; opens = λ name os e h. (subst (λ (name : Option ℕ). Opens (Inside Plain s.pending ∷ s.frames) (opener_behind name ∷ os)) (sym e) (tt, h), refl) })
   begin_is Gap at s small p t = mode_is Gap at Wanted s p t tt refl (λ name os. refl) (λ name e. e) (λ ps v. (λ h. wants_alike font s.pending.power s.pending (ends_in font s.frames v) (piece Gap at ∷ ps) ps refl h, λ h. wants_alike font s.pending.power s.pending (ends_in font s.frames v) ps (piece Gap at ∷ ps) refl h))
-  begin_is m at s small p t = refused_is m refl refl refl (λ k at ps h. h) at s p
+  begin_is m at s small p t = refused_is m refl refl refl never at s p
 
   -- ---- behind `<` or `>`
 
@@ -172,7 +176,7 @@ module _ (font : FontUnits) where
   order_as m e at s r h = step_as font (λ ps v. order_same m e at s ps v) (λ k ps v. order_same Right refl k s ps v) (λ k ps v. order_same Comma refl k s ps v) h
 
   ordered_is : (m : Mark) (at : ℕ) (s : State) → Proper m → Tidy font s.pending → FramesTidy font s.frames → OrderIs s m at (ordered m at s)
-  ordered_is Equals at s small p t = sure (steps (record s { mode = Wanted; pending = or_same_waits font s.pending }) (λ ps v. let d = directly_same Equals (wants font s.pending.power (or_same_waits font s.pending) (ends_in font s.frames v)) at ps in (λ h. d.0 (only_right (wants_not Equals refl refl refl (λ k at ps h. h) at s p ps v) h), λ h. inr (d.1 h))) (kept_mode font s t Equals at Wanted (or_same_waits font s.pending) tt p refl (λ name os. refl) (λ name e. refl)) (λ le. le))
+  ordered_is Equals at s small p t = sure (steps (record s { mode = Wanted; pending = or_same_waits font s.pending }) (λ ps v. let d = directly_same Equals (wants font s.pending.power (or_same_waits font s.pending) (ends_in font s.frames v)) at ps in (λ h. d.0 (only_right (wants_not Equals refl refl refl never at s p ps v) h), λ h. inr (d.1 h))) (kept_mode font s t Equals at Wanted (or_same_waits font s.pending) tt p refl (λ name os. refl) (λ name e. refl)) (λ le. le))
   ordered_is m at s small p t = order_as m refl at s (begin m at s) (begin_is m at s small p t)
 
   -- ---- behind the first half of an operator
