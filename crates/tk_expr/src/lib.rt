@@ -3,6 +3,7 @@
 
 mod evaluation;
 mod frames;
+mod laws;
 mod machine;
 mod number;
 mod operators;
@@ -15,6 +16,7 @@ mod tests;
 mod values;
 
 pub use evaluation::eval;
+pub use laws::{a_text_has_one_answer, evaluated_is_the_answer};
 pub use pairs::{pair, vector};
 use tk_num::Scaled;
 
