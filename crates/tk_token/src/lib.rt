@@ -16,7 +16,7 @@ pub use laws::{
 pub use lexer::{Lexed, lex};
 pub use names::Names;
 pub use positions::place;
-use std::alloc::AllocError;
+use std::alloc::{AllocError, AllocFailed};
 
 /// What a token is.
 #[derive(Clone, Copy, Debug, PartialEq, Eq)]
@@ -103,6 +103,17 @@ impl From<AllocError> for Refusal {
     ghost from_gives = { λ _ refusal. refusal ≡ OutOfMemory };
 
     fn from(_: AllocError) -> Self {
+        Refusal::OutOfMemory
+    }
+}
+
+impl<T: Drop> From<AllocFailed<T>> for Refusal {
+    ghost use Rattle.std.specs.Prelude.{◌≡◌};
+    ghost use Rattle.tk_token.specs.declared.Refusal.TheVariants.{OutOfMemory};
+
+    ghost from_gives = { λ _ refusal. refusal ≡ OutOfMemory };
+
+    fn from(_: AllocFailed<T>) -> Self {
         Refusal::OutOfMemory
     }
 }
