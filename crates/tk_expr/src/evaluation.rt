@@ -4,6 +4,7 @@ ghost use Rattle.std.specs.Prelude.{◌≡◌, ◌∷◌, ℕ, List, map};
 ghost use Rattle.tk_token.specs.Token.{token_of};
 ghost use Rattle.tk_expr.specs.Machine as machine;
 ghost use Rattle.tk_expr.specs.Evaluated as spec;
+ghost use Rattle.tk_expr.specs.Evaluates.{Evaluates};
 ghost use Rattle.tk_expr.specs.Steps.{Leads};
 ghost use Rattle.tk_expr.specs.Pieces.{pieces_of};
 
@@ -85,8 +86,10 @@ pub(crate) fn evaluate(list: &[Tok], font: &FontUnits, at: u32) -> Result<Value,
 /// them, or `at` where there is none. `TooDeep` stands at a 65th open parenthesis, call or `?`. Then the
 /// value is found, left to right: `TooLarge`, `DivZero` and `Domain` stand at the decimal, operator or
 /// name.
+#[tactic(auto, using(crate::proofs::Runs::answer_means))]
 pub fn eval(list: &[Tok], font: FontUnits, at: u32) -> Result<Value, Fault>
     ensures gives { (names : List (List ℕ)) → result ≡ spec.evaluated font at (map (token_of names) list.now) }
+    ensures means { (names : List (List ℕ)) → Evaluates font at (map (token_of names) list.now) result }
 {
     evaluate(list, &font, at)
 }
