@@ -191,8 +191,8 @@ kept_whole : (w v c : ℕ) → w ≡ min v 1073741824 → is_ascii_digit c ≡ t
 kept_whole w v c e f = let d = digit_value_of c f in omega (arith, d)
 
 read_is : (cs : List ℕ) (n : Decimal) (v at : ℕ) → n.whole ≡ min v 1073741824 → n.count ≡ 0 → n.part ≡ 0 → n.at ≡ at → AreDigits (whole_digits cs) → AreDigits (part_digits cs) → ReadIs v at cs (read_of cs n)
-read_is [] n v at e none zero_ place w f = record { whole = e; count = none; part = zero_; place = place }
-read_is (c ∷ cs) n v at e none zero_ place w f = by (λ n v e none zero_ place w f. read_is cs n v at e none zero_ place w f) (is_point c) refl
+read_is [] n v at e none nought place w f = record { whole = e; count = none; part = nought; place = place }
+read_is (c ∷ cs) n v at e none nought place w f = by (λ n v e none nought place w f. read_is cs n v at e none nought place w f) (is_point c) refl
   where
     by : ((n : Decimal) (v : ℕ) → n.whole ≡ min v 1073741824 → n.count ≡ 0 → n.part ≡ 0 → n.at ≡ at → AreDigits (whole_digits cs) → AreDigits (part_digits cs) → ReadIs v at cs (read_of cs n)) → (b : Bool) → is_point c ≡ b → ReadIs v at (c ∷ cs) (read_of (c ∷ cs) n)
     by again true p =
@@ -201,12 +201,12 @@ read_is (c ∷ cs) n v at e none zero_ place w f = by (λ n v e none zero_ place
         subst (λ (m : Decimal). ReadIs v at (c ∷ cs) m) (sym b) (record {
           whole = h.whole ∙ e ∙ ap (λ ds. min (digits_value_after 10 v ds) 1073741824) (sym (whole_point c cs p));
           count = (let i = h.count in let j : (part_after cs (with_point n)).count ≡ length (take 17 cs) = omega (arith, i, none) in j) ∙ ap (λ ds. length (take 17 ds)) (sym (part_point c cs p));
-          part = h.part ∙ ap (λ k. digits_value_after 10 k (take 17 cs)) zero_ ∙ ap (λ ds. digits_value 10 (take 17 ds)) (sym (part_point c cs p));
+          part = h.part ∙ ap (λ k. digits_value_after 10 k (take 17 cs)) nought ∙ ap (λ ds. digits_value 10 (take 17 ds)) (sym (part_point c cs p));
           place = h.at ∙ place;
         })
     by again false p =
         let all = both (is_ascii_digit c) (list_all is_ascii_digit (whole_digits cs)) (subst AreDigits (whole_cons c cs p) w) in
-        let h = again (with_whole_digit (c - 48) n) (v * 10 + digit_value c) (kept_whole n.whole v c e all.0) none zero_ place all.1 (subst AreDigits (part_cons c cs p) f) in
+        let h = again (with_whole_digit (c - 48) n) (v * 10 + digit_value c) (kept_whole n.whole v c e all.0) none nought place all.1 (subst AreDigits (part_cons c cs p) f) in
         let b : read_of (c ∷ cs) n ≡ read_of cs (with_whole_digit (c - 48) n) = rw p refl in
         subst (λ (m : Decimal). ReadIs v at (c ∷ cs) m) (sym b) (record {
           whole = h.whole ∙ ap (λ ds. min (digits_value_after 10 v ds) 1073741824) (sym (whole_cons c cs p));

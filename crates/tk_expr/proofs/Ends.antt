@@ -82,16 +82,16 @@ module _ (font : FontUnits) where
       go name (Call n ∷ os) e h = elim h.0 [ ]
       go name (Asked ∷ os) e h = elim h.0 [ ]
 
-  sure_behind : (c v : Found) (fs : List Frame) (unit : Bool) (m : Mark) (at : ℕ) (r : Answer State) (a : Ahead) (right_ comma_ : ℕ → Ahead) → ((name : Option ℕ) (os : List Opener) → open_behind name (Answered ∷ os) m ≡ open_behind name os m) → SureIs font a right_ comma_ Unnamed fs unit m at r → SureIs font a right_ comma_ Unnamed (Else c v ∷ fs) unit m at r
-  sure_behind c v fs unit m at r a right_ comma_ same (steps t h k l) = steps t h (kept_behind c v fs unit m at t same k) (λ le. l (omega arith))
-  sure_behind c v fs unit m at r a right_ comma_ same (refuses h k) = refuses h (no_miscount_behind m k)
+  sure_behind : (c v : Found) (fs : List Frame) (unit : Bool) (m : Mark) (at : ℕ) (r : Answer State) (a : Ahead) (rights commas : ℕ → Ahead) → ((name : Option ℕ) (os : List Opener) → open_behind name (Answered ∷ os) m ≡ open_behind name os m) → SureIs font a rights commas Unnamed fs unit m at r → SureIs font a rights commas Unnamed (Else c v ∷ fs) unit m at r
+  sure_behind c v fs unit m at r a rights commas same (steps t h k l) = steps t h (kept_behind c v fs unit m at t same k) (λ le. l (omega arith))
+  sure_behind c v fs unit m at r a rights commas same (refuses h k) = refuses h (no_miscount_behind m k)
     where
-      no_miscount_behind : (m : Mark) → NoMiscount right_ comma_ fs m → NoMiscount right_ comma_ (Else c v ∷ fs) m
+      no_miscount_behind : (m : Mark) → NoMiscount rights commas fs m → NoMiscount rights commas (Else c v ∷ fs) m
       no_miscount_behind Comma k = k
       no_miscount_behind _ k = k
-  sure_behind c v fs unit m at r a right_ comma_ same (miscounts name h k) = miscounts name h (miscounts_behind m k)
+  sure_behind c v fs unit m at r a rights commas same (miscounts name h k) = miscounts name h (miscounts_behind m k)
     where
-      miscounts_behind : (m : Mark) → Miscounts right_ comma_ fs name m → Miscounts right_ comma_ (Else c v ∷ fs) name m
+      miscounts_behind : (m : Mark) → Miscounts rights commas fs name m → Miscounts rights commas (Else c v ∷ fs) name m
       miscounts_behind Comma k = k
       miscounts_behind _ k = k
 

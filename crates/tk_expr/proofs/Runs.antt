@@ -285,7 +285,7 @@ module _ (font : FontUnits) where
 
   answered : (end : ℕ) (before ps : List Piece) (s : State) → Reached before s → AllProper ps → Answers font end (before ++ ps) (run font s ps >>= finish font end)
   answered end before [] s r h = subst (λ (l : List Piece). Answers font end l (finish font end s)) (sym (append-nil before)) (from_finish end r (finish font end s) (finish_is font s end))
-  answered end before (p ∷ ps) s r h = from_step end r p ps (step font s p) (step_is font s p h.0 r.valid) (λ t r'. answered end (before ++ p ∷ []) ps t r' h.1)
+  answered end before (p ∷ ps) s r h = from_step end r p ps (step font s p) (step_is font s p h.0 r.valid) (λ t next. answered end (before ++ p ∷ []) ps t next h.1)
 
   -- ---- one value
 
@@ -297,7 +297,7 @@ module _ (font : FontUnits) where
 
   one_completion : (s : State) (ps : List Piece) (v w : Found) → AllProper ps → Valid font s → Completes font s ps v → Completes font s ps w → v ≡ w
   one_completion s [] v w h valid a b = one_value font s v w a b
-  one_completion s (p ∷ ps) v w h valid a b = one_step s p ps v w (step font s p) (step_is font s p h.0 valid) (λ t valid' a b. one_completion t ps v w h.1 valid' a b) a b
+  one_completion s (p ∷ ps) v w h valid a b = one_step s p ps v w (step font s p) (step_is font s p h.0 valid) (λ t kept a b. one_completion t ps v w h.1 kept a b) a b
 
   -- two trees of a text have one value
   pub one_text : (ps : List Piece) (t u : Tree) → AllProper ps → IsText ps t → IsText ps u → value font t ≡ value font u

@@ -37,8 +37,8 @@ module _ (font : FontUnits) where
     read_rest (with_unit e r) = on_unit e (read_rest r)
     read_rest (with_radians e r) = on_radians e (read_rest r)
     read_rest (with_power e x r) = on_power e (read_exponent x) (read_rest r)
-    read_rest (with_operator {o = o'} {at = at} l c e o r) = on_operator o' at l c e (read_operand o) (read_rest r)
-    read_rest (with_comparison {o = o'} {at = at} l e o) = on_comparison o' at l e (read_operand o)
+    read_rest (with_operator {o = o} {at = at} l c e p r) = on_operator o at l c e (read_operand p) (read_rest r)
+    read_rest (with_comparison {o = o} {at = at} l e p) = on_comparison o at l e (read_operand p)
 
     read_unary : {ps qs : List Piece} {t : Tree} → Unary ps t qs → Prefixed font ps (value font t) qs
     read_unary (signed e s u) = sign_before e s (read_unary u)
