@@ -1,5 +1,5 @@
 -- The arguments of a call, one after the other.
-use Rattle.std.proofs.Common.{◌≡◌, ℕ, zero, suc, List, [], ◌∷◌, ◌++◌, length, Ok, Err, Vec, Global, refl, sym, ap, ◌∙◌, append_assoc, arith}
+use Rattle.std.proofs.Common.{◌≡◌, ℕ, suc, List, [], ◌∷◌, ◌++◌, length, Ok, Err, Vec, Global, refl, sym, ap, ◌∙◌, append_assoc, arith}
 use Rattle.std.proofs.lemmas.List.{append-nil}
 use Rattle.tk_token.specs.declared.Kind.{Kind}
 use Rattle.tk_token.specs.declared.Kind.TheVariants.{Char, Word, Symbol, Open, Close, Param, Arg, Space}
@@ -9,7 +9,7 @@ use Rattle.tk_token.specs.declared.Code.TheVariants.{MacroArg}
 use Rattle.tk_token.specs.Answers.{Answer, ◌>>=◌, or_fault}
 use Rattle.tk_token.specs.Groups.{Cut, cut}
 use Rattle.tk_token.specs.Refusals.{Fails}
-use Rattle.tk_token.proofs.Answering.{fails_then, fails_as, then_is}
+use Rattle.tk_token.proofs.Answering.{fails_then, fails_as}
 use Rattle.tk_store.specs.declared.Macro.{Macro}
 use Rattle.tk_expand.specs.Arguments.{argument_of, Arguments, given, arguments_of, meant_by, with_arguments, text_of}
 use Rattle.tk_expand.specs.Expand.{pay, cost_of, left, replaced}

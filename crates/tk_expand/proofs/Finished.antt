@@ -1,8 +1,8 @@
 -- What an expansion leaves.
-use Rattle.std.specs.Prelude.{◌≡◌, ℕ, ◌+◌, ◌≤◌, ◌&&◌, true, Bool, List, [], ◌∷◌, Option, Some, None, Ok, Err, IfOk}
+use Rattle.std.specs.Prelude.{◌≡◌, ℕ, ◌&&◌, List, [], ◌∷◌, Option, Some, None, Ok, Err, IfOk}
 use Rattle.std.specs.Option.{is_none}
 use Rattle.std.specs.List.{list_all}
-use Rattle.std.proofs.Common.{refl, ◌∙◌, ap, arith}
+use Rattle.std.proofs.Common.{refl, ◌∙◌, ap}
 use Rattle.tk_token.specs.declared.Tok.{Tok}
 use Rattle.tk_token.specs.declared.Code.TheVariants.{Budget}
 use Rattle.tk_token.specs.Answers.{Answer, fault}

@@ -1,16 +1,16 @@
 -- How long arguments are, and what stands behind them.
-use Rattle.std.specs.Prelude.{◌≡◌, ℕ, zero, suc, ◌+◌, ◌<◌, ◌≤◌, Bool, true, false, ◌&&◌, ◌==◌, if◌then◌else◌, List, [], ◌∷◌, length, drop, Option, Some, None, Ok, IfSome, IfOk}
+use Rattle.std.specs.Prelude.{◌≡◌, ℕ, zero, suc, ◌+◌, ◌<◌, ◌≤◌, Bool, true, false, ◌&&◌, ◌==◌, if◌then◌else◌, List, [], ◌∷◌, length, Option, Some, None, Ok, IfSome, IfOk}
 use Rattle.std.specs.List.{prefix_len}
-use Rattle.std.proofs.Common.{refl, arith, length-drop}
+use Rattle.std.proofs.Common.{arith, length-drop}
 use Rattle.tk_token.specs.declared.Kind.{Kind}
 use Rattle.tk_token.specs.declared.Kind.TheVariants.{Char, Word, Symbol, Open, Close, Param, Arg, Space}
 use Rattle.tk_token.specs.declared.Tok.{Tok}
 use Rattle.tk_token.specs.declared.Code.TheVariants.{MacroArg}
-use Rattle.tk_token.specs.Answers.{Answer, or_fault}
+use Rattle.tk_token.specs.Answers.{or_fault}
 use Rattle.tk_token.specs.Groups.{Cut, cut, with_first, is_close, depth_after, before_in}
 use Rattle.tk_token.proofs.Answering.{then_holds, or_fault_holds, known_of}
 use Rattle.tk_store.specs.declared.Macro.{Macro}
-use Rattle.tk_expand.specs.Arguments.{is_space, after_spaces, argument_from, argument_in, argument_of, Arguments, given, arguments_of, with_arguments, text_of}
+use Rattle.tk_expand.specs.Arguments.{is_space, after_spaces, argument_from, argument_in, argument_of, Arguments, arguments_of, text_of}
 
 -- the front and the rest are fewer tokens than were there
 abbrev pub IsShorter : List Tok → Cut → Type 0

@@ -4,5 +4,6 @@ pub mod Finished
 pub mod Fronts
 pub mod Groups
 pub mod Lengths
+pub mod Places
 pub mod Spaces
 pub mod Stacks

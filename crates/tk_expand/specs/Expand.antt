@@ -1,7 +1,7 @@
 -- Expansion: macro calls are replaced from the front on, and each is paid for.
-use Rattle.std.specs.Prelude.{◌≡◌, ℕ, ◌+◌, ◌-◌, true, nat_lt, if◌then◌else◌, List, [], ◌∷◌, ◌++◌, length, Option, Some, None, Ok}
+use Rattle.std.specs.Prelude.{◌≡◌, ℕ, ◌+◌, ◌-◌, ◌≤◌, true, nat_lt, if◌then◌else◌, List, [], ◌∷◌, ◌++◌, length, Option, Some, None, Ok}
 use Rattle.std.specs.FinMap as map
-use Rattle.std.specs.List.{list_all}
+use Rattle.std.specs.List.{AllByRecursion, list_all}
 use Rattle.std.specs.Option.{is_none}
 use Rattle.tk_token.specs.declared.Kind.{Kind}
 use Rattle.tk_token.specs.declared.Kind.TheVariants.{Word}
@@ -50,6 +50,10 @@ StandsStill macros (t ∷ ts) = called_by macros t.kind ≡ None
 -- no token of the list calls anything
 abbrev pub IsExpanded : Macros → List Tok → Type 0
 IsExpanded macros ts = list_all (λ (t : Tok). is_none (called_by macros t.kind)) ts ≡ true
+
+-- each token of the list stands at a place of at most that number
+abbrev pub StandWithin : ℕ → List Tok → Type 0
+StandWithin len ts = AllByRecursion (λ (t : Tok). t.at ≤ len) ts
 
 module _ (budget : ℕ) (macros : Macros) where
   -- a token in front stays where it calls nothing, else its call is replaced

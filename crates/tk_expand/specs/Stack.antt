@@ -1,6 +1,5 @@
 -- Lists that lie on one another.
 use Rattle.std.specs.Prelude.{List, [], ◌∷◌, ◌++◌}
-use Rattle.std.specs.List.{All}
 use Rattle.tk_token.specs.declared.Tok.{Tok}
 
 -- the tokens of all lists, where the last list is read first

@@ -75,6 +75,7 @@ fn pay_for(units: &mut Units, arguments: &[Vec<Tok>], body: &[Tok], at: u32) -> 
         (λ fault. pay units.old.budget units.old.used (cost_of (with_arguments (texts_of arguments.now) body.now)) at ≡ Err fault) }
     ensures budget { units.new.budget ≡ units.old.budget }
 {
+    // The budget is a number below 2^64, so that a cost past it is too much.
     let _budget = units.budget;
     match cost_of(arguments, body) {
         Some(cost) => units.pay(cost, at),

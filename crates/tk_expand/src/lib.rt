@@ -12,6 +12,7 @@ mod units;
 pub use expansion::expand_all;
 pub use input::Input;
 pub use laws::{
-    a_front_is_its_step, a_full_expansion_is_its_step, no_call_is_in_front, no_call_is_left,
+    a_front_is_its_step, a_full_expansion_is_its_step, an_expansion_stands_within_the_source,
+    no_call_is_in_front, no_call_is_left,
 };
 pub use units::Units;

@@ -1,4 +1,4 @@
-use Rattle.std.proofs.Common.{◌≡◌, ◌≤◌, ◌^◌, ℕ, length, sym, ap, ◌∙◌, arith, take}
+use Rattle.std.proofs.Common.{length, ap, arith}
 use Rattle.std.proofs.lemmas.List.Folds.{length-flat_map-take}
 use Rattle.tk_token.specs.declared.Kind.TheVariants.{Char}
 use Rattle.tk_token.specs.declared.Tok.{Tok}

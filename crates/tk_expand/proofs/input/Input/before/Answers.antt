@@ -1,6 +1,5 @@
-use Rattle.std.proofs.Common.{◌≡◌, ◌≤◌, ◌∷◌, [], ◌++◌, length, vec_len, List, ◌∙◌, sym, ap, arith, append_assoc}
+use Rattle.std.proofs.Common.{◌∷◌, [], ◌++◌, List, ◌∙◌, sym, ap, arith, append_assoc}
 use Rattle.tk_token.specs.declared.Tok.{Tok}
-use Rattle.tk_token.specs.Groups.{before_in}
 use Rattle.tk_expand.specs.Stops.{wanted_by}
 use Rattle.tk_expand.proofs.Groups.{ends, finds, closes, goes}
 use Rattle.tk_expand.proofs.input.Input.before.Goals as goal

@@ -1,4 +1,4 @@
-use Rattle.std.proofs.Common.{◌≡◌, ◌≤◌, ◌+◌, ◌++◌, length, vec_len}
+use Rattle.std.proofs.Common.{◌≡◌, ◌≤◌, ◌++◌, length, vec_len}
 use Rattle.tk_token.specs.Groups.{before_in}
 use Rattle.tk_expand.specs.Stops.{wanted_by}
 use Rattle.tk_expand.proofs.Groups.{prefixed}
