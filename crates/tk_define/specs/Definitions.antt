@@ -3,7 +3,6 @@ use Rattle.std.specs.Prelude.{ℕ, List, Ok, IfSome}
 use Rattle.std.specs.FinMap as map
 use Rattle.tk_token.specs.declared.Tok.{Tok}
 use Rattle.tk_token.specs.Answers.{Answer, ◌>>=◌}
-use Rattle.tk_store.specs.declared.Macro.{Macro}
 use Rattle.tk_store.specs.Levels.{Macros}
 use Rattle.tk_expand.specs.Unread.{Unread}
 use Rattle.tk_expand.specs.Expand.{left, full}
