@@ -17,7 +17,7 @@ use Rattle.tk_define.specs.Bodies.{body_in, IsProper}
 abbrev pub stands_for : ℕ → ℕ → List Tok → Definition
 stands_for word args body = record { word = word; value = record { args = args; body = body } }
 
--- `\def`: the word, its parameters, and its body
+-- `\def`: the word, its parameters, and its body, with no Space between them
 unfoldable pub def : ℕ → List Tok → Answer (Read Definition)
 def end ts = do
   name ← said_by word_of end ts

@@ -8,7 +8,7 @@ use Rattle.tk_token.specs.Groups.{is_sign, is_close}
 use Rattle.tk_expand.specs.Arguments.{after_spaces}
 use Rattle.tk_define.specs.Parts.{is_open, is_param, is_digit, word_of, digit_of, misfit, Read, read, next_token, behind, said_by}
 
--- ---- the parameters of `\def` (Knuth, TeX: The Program, section 476, for parameters with nothing between them)
+-- ---- the parameters of `\def` (Knuth, TeX: The Program, sections 474 to 476, for parameters that nothing delimits)
 
 -- The parameters, up to the `{` of the body: how many there are, where so many were read, and so many more can come.
 unfoldable pub parameters : ℕ → ℕ → ℕ → List Tok → Answer (Read ℕ)
@@ -21,7 +21,7 @@ parameters end count (suc more) ts = do
       then (behind (is_digit (count + 1)) end next.rest >>= λ rest. parameters end (suc count) more rest)
       else (behind is_open end ts >>= λ rest. Ok (read count rest))
 
--- ---- the parts of `\newcommand`, between which Spaces may stand
+-- ---- the parts of `\newcommand`, before each of which Spaces may stand
 
 -- the first token of the name: a `*` may stand before it
 unfoldable pub name_start : ℕ → List Tok → Answer (Read Tok)
