@@ -37,8 +37,8 @@ module _ (budget : ℕ) (macros : Macros) where
   unfolding replaced
   replaced_falls units called at ts =
       then_holds (λ (c : Cut). length c.rest ≤ length ts) (Spends units ts) (text_of called at ts) _ (text_rest called at ts) (λ c short.
-        then_holds (λ now. (now ≡ units + (1 + length c.front)) × (now ≤ budget)) (Spends units ts) (pay budget units (1 + length c.front) at) _ (paid budget units (1 + length c.front) at) (λ now p.
-          (omega arith, omega (arith, length-append c.front c.rest))))
+      then_holds (λ now. (now ≡ units + (1 + length c.front)) × (now ≤ budget)) (Spends units ts) (pay budget units (1 + length c.front) at) _ (paid budget units (1 + length c.front) at) (λ now p.
+      (omega arith, omega (arith, length-append c.front c.rest))))
 
   front_token_falls : (rec : Left → Answer Left) → ((l : Left) → IfOk (rec l) (Falls l)) → (units : ℕ) (t : Tok) (ts : List Tok) (called : Option Macro) → IfOk (front_token budget macros rec units t ts called) (Falls (left units (t ∷ ts)))
   front_token_falls rec h units t ts None = record { units = omega arith; work_falls = omega arith }

@@ -35,7 +35,7 @@ module _ (budget : ℕ) (macros : Macros) where
   list_expanded rec h units [] still = refl
   list_expanded rec h units (t ∷ ts) still =
       then_holds (λ (r : Left). IsExpanded macros r.rest) (λ (r : Left). IsExpanded macros r.rest) (rec (left units ts)) _ (h (left units ts)) (λ more k.
-        ap (λ (o : Option Macro). is_none o && list_all (λ (t : Tok). is_none (called_by macros t.kind)) more.rest) still ∙ k)
+      ap (λ (o : Option Macro). is_none o && list_all (λ (t : Tok). is_none (called_by macros t.kind)) more.rest) still ∙ k)
 
   -- no call is left
   pub full_expanded : (l : Left) → IfOk (full budget macros l) (λ r. IsExpanded macros r.rest)

@@ -67,7 +67,7 @@ unfolding arguments_of
 arguments_no_longer at zero ts = omega arith
 arguments_no_longer at (suc n) ts =
     then_holds (IsNoLonger ts) (λ (a : Arguments). length a.rest ≤ length ts) (or_fault (argument_of ts) MacroArg at) _ (or_fault_holds (IsNoLonger ts) (argument_of ts) MacroArg at (argument_no_longer ts)) (λ first h.
-      then_holds (λ (a : Arguments). length a.rest ≤ length first.rest) (λ (a : Arguments). length a.rest ≤ length ts) (arguments_of at n first.rest) _ (arguments_no_longer at n first.rest) (λ more k. omega arith))
+    then_holds (λ (a : Arguments). length a.rest ≤ length first.rest) (λ (a : Arguments). length a.rest ≤ length ts) (arguments_of at n first.rest) _ (arguments_no_longer at n first.rest) (λ more k. omega arith))
 
 -- what stands behind a call
 pub text_rest : (called : Macro) (at : ℕ) (ts : List Tok) → IfOk (text_of called at ts) (λ c. length c.rest ≤ length ts)

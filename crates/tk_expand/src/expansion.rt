@@ -69,12 +69,7 @@ impl Input {
 }
 
 /// Pays for a text before it is put together, so that no text is longer than the budget.
-fn pay_for(
-    units: &mut Units,
-    arguments: &[Vec<Tok>],
-    body: &[Tok],
-    at: u32,
-) -> Result<(), Fault>
+fn pay_for(units: &mut Units, arguments: &[Vec<Tok>], body: &[Tok], at: u32) -> Result<(), Fault>
     ensures pays { MatchResult result
         (λ _. pay units.old.budget units.old.used (cost_of (with_arguments (texts_of arguments.now) body.now)) at ≡ Ok units.new.used)
         (λ fault. pay units.old.budget units.old.used (cost_of (with_arguments (texts_of arguments.now) body.now)) at ≡ Err fault) }

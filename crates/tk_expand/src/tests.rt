@@ -8,18 +8,18 @@ use tk_store::{Body, Macro, Store};
 use tk_token::{Code, Fault, Kind, Refusal, Tok};
 
 /// The macros of the tests: a word, how many arguments it has, and its body, in which a digit is the place of an argument.
-const MACROS: [(&str, u8, &str); 7] = [
+const MACROS: [(char, u8, &str); 7] = [
     // Its text is 2 tokens longer than its argument.
-    ("F", 1, "(1)"),
-    ("G", 0, "Fx"),
-    ("H", 0, ""),
-    ("E", 2, "2-1"),
+    ('F', 1, "(1)"),
+    ('G', 0, "Fx"),
+    ('H', 0, ""),
+    ('E', 2, "2-1"),
     // It needs an argument that stands behind its call.
-    ("K", 0, "F"),
+    ('K', 0, "F"),
     // It doubles its argument, and never ends.
-    ("D", 1, "D{11}"),
+    ('D', 1, "D{11}"),
     // It calls itself, and never ends.
-    ("L", 0, "L"),
+    ('L', 0, "L"),
 ];
 
 /// A text, the budget, the units that are paid, and the expanded text. A capital is a control word, `_` a gap.
@@ -51,56 +51,56 @@ const EXPANDED: [(&str, u64, u64, &str); 17] = [
     ("{Fx}Fy", 8, 8, "{(x)}(y)"),
 ];
 
-/// A text, the budget, the units that are paid before the fault, the fault and its place. A token of the text has the place
-/// of its character, a token of a body that of its character after 100.
-const REFUSED: [(&str, u64, u64, Code, u32); 11] = [
-    ("F", 99, 0, Code::MacroArg, 0),
-    ("aF__", 99, 0, Code::MacroArg, 1),
-    ("a{F}b", 99, 0, Code::MacroArg, 2),
-    ("Ex_}y", 99, 0, Code::MacroArg, 0),
+/// A text, the budget, the units that are paid before the fault, and the fault with its place. A token of the text has the
+/// place of its character, a token of a body that of its character after 100.
+const REFUSED: [(&str, u64, u64, &str); 11] = [
+    ("F", 99, 0, "MacroArg 0"),
+    ("aF__", 99, 0, "MacroArg 1"),
+    ("a{F}b", 99, 0, "MacroArg 2"),
+    ("Ex_}y", 99, 0, "MacroArg 0"),
     // The group isn't closed.
-    ("F{ab", 99, 0, Code::MacroArg, 0),
-    ("HK", 99, 3, Code::MacroArg, 100),
+    ("F{ab", 99, 0, "MacroArg 0"),
+    ("HK", 99, 3, "MacroArg 100"),
     // One unit less than the cost of 4.
-    ("aFx", 3, 0, Code::Budget, 1),
+    ("aFx", 3, 0, "Budget 1"),
     // An argument is read before the cost is paid.
-    ("F", 0, 0, Code::MacroArg, 0),
-    ("Fx", 0, 0, Code::Budget, 0),
-    ("G", 6, 3, Code::Budget, 100),
+    ("F", 0, 0, "MacroArg 0"),
+    ("Fx", 0, 0, "Budget 0"),
+    ("G", 6, 3, "Budget 100"),
     // The costs are 6, 8, 12, 20, 36, then 68.
-    ("Dx", 149, 82, Code::Budget, 100),
+    ("Dx", 149, 82, "Budget 100"),
 ];
 
 /// Two of these calls without end, and what they pay of 20,000,000 units. `L` costs 2 each time. The argument of the 23 calls
 /// of `D` that are paid is doubled each time, from 1 token on: their costs are 4 + 2, 4 + 4, up to 4 + 2^23.
 const ENDLESS: [(&str, u64); 2] = [("L", 20_000_000), ("Dx", 16_777_306)];
 
-/// A list, a sign, and what `until` takes and leaves.
-const SIGNS: [(&str, char, Option<&str>, &str); 9] = [
-    ("a,b", ',', Some("a"), "b"),
-    (",b", ',', Some(""), "b"),
-    ("a,", ',', Some("a"), ""),
-    ("{a,b}_,c,d", ',', Some("{a,b}_"), "c,d"),
-    ("{{a}b},{", ',', Some("{{a}b}"), "{"),
+/// A list, a sign, what `until` takes, if it takes anything, and what it leaves.
+const SIGNS: [(&str, char, &str, &str); 9] = [
+    ("a,b", ',', "a", "b"),
+    (",b", ',', "", "b"),
+    ("a,", ',', "a", ""),
+    ("{a,b}_,c,d", ',', "{a,b}_", "c,d"),
+    ("{{a}b},{", ',', "{{a}b}", "{"),
     // Without the sign outside braces nothing is taken.
-    ("", ',', None, ""),
-    ("ab{,}", ',', None, "ab{,}"),
-    ("a;{b", ',', None, "a;{b"),
+    ("", ',', "none", ""),
+    ("ab{,}", ',', "none", "ab{,}"),
+    ("a;{b", ',', "none", "a;{b"),
     // So it is where a `}` comes before it.
-    ("a}b,c", ',', None, "a}b,c"),
+    ("a}b,c", ',', "none", "a}b,c"),
 ];
 
-/// A list, its first argument if it has one, and what stands behind that.
-const ARGUMENTS: [(&str, Option<&str>, &str); 8] = [
-    ("ab", Some("a"), "b"),
-    ("__ab", Some("a"), "b"),
-    ("_{a{b}}_c", Some("a{b}"), "_c"),
-    ("{}", Some(""), ""),
-    ("Fx", Some("F"), "x"),
-    ("_", None, ""),
-    ("_}a", None, ""),
-    ("{a{}", None, ""),
+/// A list, its first argument, and what stands behind that.
+const ARGUMENTS: [(&str, &str, &str); 5] = [
+    ("ab", "a", "b"),
+    ("__ab", "a", "b"),
+    ("_{a{b}}_c", "a{b}", "_c"),
+    ("{}", "", ""),
+    ("Fx", "F", "x"),
 ];
+
+/// Lists without a first argument.
+const MISSING: [&str; 4] = ["", "_", "_}a", "{a{}"];
 
 fn kind_of(character: char) -> Kind {
     match character {
@@ -140,87 +140,39 @@ fn shown(alloc: Global, toks: &[Tok]) -> Result<String, Fail> {
     Ok(text)
 }
 
+/// A fault with its place.
+fn fault_shown(alloc: Global, fault: Fault) -> Result<String, Fail> {
+    let name = match fault.code {
+        Code::MacroArg => "MacroArg",
+        Code::Budget => "Budget",
+        _ => "?",
+    };
+    let at = fault.at;
+    Ok(format!(in alloc; "{name} {at}")?)
+}
+
+fn answer(alloc: Global, given: Result<Vec<Tok>, Refusal>) -> Result<String, Fail> {
+    match given {
+        Ok(toks) => shown(alloc, &toks),
+        Err(refusal) => match refusal {
+            Refusal::Fault(fault) => fault_shown(alloc, fault),
+            Refusal::OutOfMemory => Err("no memory".into()),
+        },
+    }
+}
+
 fn store(alloc: Global) -> Result<Store, Fail> {
     let mut store = Store::new(alloc)?;
     for (word, args, body) in &MACROS {
-        let Some(word) = word.chars().next() else {
-            return Err("no word".into());
-        };
         let body = Body::from_vec(toks(alloc, body, 100)?)?;
-        store.set_macro(word as u32, Macro { args: *args, body })?;
+        store.set_macro(*word as u32, Macro { args: *args, body })?;
     }
     Ok(store)
 }
 
-#[test]
-fn calls_are_replaced_until_none_is_left(rt: HostRuntime) -> Result<(), Fail> {
-    let alloc = rt.alloc();
-    let store = store(alloc)?;
-    for (text, budget, used, expanded) in &EXPANDED {
-        let mut units = Units {
-            used: 0,
-            budget: *budget,
-        };
-        match expand_all(alloc, &toks(alloc, text, 0)?, &store, &mut units) {
-            Ok(toks) => assert_eq!(rt; shown(alloc, &toks)?.as_str(), *expanded, "{text}"),
-            Err(_) => assert!(rt; false, "{text}"),
-        }
-        assert_eq!(rt; units.used, *used, "{text}");
-    }
-    Ok(())
-}
-
-#[test]
-fn the_first_fault_stands(rt: HostRuntime) -> Result<(), Fail> {
-    let alloc = rt.alloc();
-    let store = store(alloc)?;
-    for (text, budget, used, code, at) in &REFUSED {
-        let mut units = Units {
-            used: 0,
-            budget: *budget,
-        };
-        let fault = Fault {
-            code: *code,
-            at: *at,
-        };
-        match expand_all(alloc, &toks(alloc, text, 0)?, &store, &mut units) {
-            Ok(_) => assert!(rt; false, "{text}"),
-            Err(refusal) => assert_eq!(rt; refusal, Refusal::Fault(fault), "{text}"),
-        }
-        assert_eq!(rt; units.used, *used, "{text}");
-    }
-    Ok(())
-}
-
-#[test]
-fn the_budget_ends_what_has_no_end(rt: HostRuntime) -> Result<(), Fail> {
-    let alloc = rt.alloc();
-    let store = store(alloc)?;
-    for (text, used) in &ENDLESS {
-        let mut units = Units {
-            used: 0,
-            budget: 20_000_000,
-        };
-        let mut input = Input::new(alloc, Body::from_vec(toks(alloc, text, 0)?)?, 5)?;
-        let fault = Fault {
-            code: Code::Budget,
-            at: 100,
-        };
-        match input.next(&store, &mut units) {
-            Ok(_) => assert!(rt; false, "{text}"),
-            Err(refusal) => assert_eq!(rt; refusal, Refusal::Fault(fault), "{text}"),
-        }
-        assert_eq!(rt; units.used, *used, "{text}");
-    }
-    Ok(())
-}
-
 fn input(alloc: Global, text: &str) -> Result<Input, Fail> {
-    Ok(Input::new(
-        alloc,
-        Body::from_vec(toks(alloc, text, 0)?)?,
-        77,
-    )?)
+    let list = Body::from_vec(toks(alloc, text, 0)?)?;
+    Ok(Input::new(alloc, list, 77)?)
 }
 
 /// What is left of a list, taken as it stands.
@@ -235,82 +187,115 @@ fn rest_of(alloc: Global, mut input: Input) -> Result<String, Fail> {
     shown(alloc, &toks)
 }
 
+/// The whole text expanded, and the units that are paid.
+fn expanded(alloc: Global, store: &Store, text: &str, budget: u64) -> Result<(String, u64), Fail> {
+    let mut units = Units { used: 0, budget };
+    let list = toks(alloc, text, 0)?;
+    let text = answer(alloc, expand_all(alloc, &list, store, &mut units))?;
+    Ok((text, units.used))
+}
+
+/// The place of the next token, or the fault, and the units that are paid.
+fn next_of(
+    alloc: Global,
+    store: &Store,
+    input: &mut Input,
+    units: &mut Units,
+) -> Result<String, Fail> {
+    match input.next(store, units) {
+        Ok(Some(tok)) => {
+            let at = tok.at;
+            Ok(format!(in alloc; "{at}")?)
+        }
+        Ok(None) => Err("no token".into()),
+        Err(refusal) => answer(alloc, Err(refusal)),
+    }
+}
+
+/// What `until` takes.
+fn until_of(alloc: Global, input: &mut Input, sign: char) -> Result<String, Fail> {
+    match input.until(sign)? {
+        Some(toks) => shown(alloc, &toks),
+        None => Ok(String::from_str(alloc, "none")?),
+    }
+}
+
+#[test]
+fn calls_are_replaced_until_none_is_left(rt: HostRuntime) -> Result<(), Fail> {
+    let store = store(rt.alloc())?;
+    for (text, budget, used, wanted) in &EXPANDED {
+        let (answer, paid) = expanded(rt.alloc(), &store, text, *budget)?;
+        assert_eq!(rt; answer.as_str(), *wanted, "{text}");
+        assert_eq!(rt; paid, *used, "{text}");
+    }
+    Ok(())
+}
+
+#[test]
+fn the_first_fault_stands(rt: HostRuntime) -> Result<(), Fail> {
+    let store = store(rt.alloc())?;
+    for (text, budget, used, wanted) in &REFUSED {
+        let (answer, paid) = expanded(rt.alloc(), &store, text, *budget)?;
+        assert_eq!(rt; answer.as_str(), *wanted, "{text}");
+        assert_eq!(rt; paid, *used, "{text}");
+    }
+    Ok(())
+}
+
+#[test]
+fn the_budget_ends_what_has_no_end(rt: HostRuntime) -> Result<(), Fail> {
+    let store = store(rt.alloc())?;
+    for (text, used) in &ENDLESS {
+        let (answer, paid) = expanded(rt.alloc(), &store, text, 20_000_000)?;
+        assert_eq!(rt; answer.as_str(), "Budget 100", "{text}");
+        assert_eq!(rt; paid, *used, "{text}");
+    }
+    Ok(())
+}
+
 #[test]
 fn a_sign_is_found_outside_braces(rt: HostRuntime) -> Result<(), Fail> {
-    let alloc = rt.alloc();
-    for (text, sign, taken, rest) in &SIGNS {
-        let mut input = input(alloc, text)?;
-        match (input.until(*sign)?, taken) {
-            (Some(toks), Some(taken)) => {
-                assert_eq!(rt; shown(alloc, &toks)?.as_str(), *taken, "{text}")
-            }
-            (None, None) => {}
-            _ => assert!(rt; false, "{text}"),
-        }
-        assert_eq!(rt; input.end(), 77);
-        assert_eq!(rt; rest_of(alloc, input)?.as_str(), *rest, "{text}");
+    for (text, sign, wanted, rest) in &SIGNS {
+        let mut input = input(rt.alloc(), text)?;
+        let taken = until_of(rt.alloc(), &mut input, *sign)?;
+        assert_eq!(rt; taken.as_str(), *wanted, "{text}");
+        assert_eq!(rt; rest_of(rt.alloc(), input)?.as_str(), *rest, "{text}");
     }
     Ok(())
 }
 
 #[test]
 fn an_argument_is_a_token_or_a_group(rt: HostRuntime) -> Result<(), Fail> {
-    let alloc = rt.alloc();
-    let missing = Fault {
-        code: Code::MacroArg,
-        at: 9,
-    };
-    for (text, argument, rest) in &ARGUMENTS {
-        let mut input = input(alloc, text)?;
-        match (input.argument(9), argument) {
-            (Ok(toks), Some(argument)) => {
-                assert_eq!(rt; shown(alloc, &toks)?.as_str(), *argument, "{text}");
-                assert_eq!(rt; rest_of(alloc, input)?.as_str(), *rest, "{text}");
-            }
-            (Err(refusal), None) => assert_eq!(rt; refusal, Refusal::Fault(missing), "{text}"),
-            _ => assert!(rt; false, "{text}"),
-        }
+    for (text, wanted, rest) in &ARGUMENTS {
+        let mut input = input(rt.alloc(), text)?;
+        let argument = answer(rt.alloc(), input.argument(9))?;
+        assert_eq!(rt; argument.as_str(), *wanted, "{text}");
+        assert_eq!(rt; rest_of(rt.alloc(), input)?.as_str(), *rest, "{text}");
+    }
+    for text in &MISSING {
+        let mut input = input(rt.alloc(), text)?;
+        let argument = answer(rt.alloc(), input.argument(9))?;
+        assert_eq!(rt; argument.as_str(), "MacroArg 9", "{text}");
     }
     Ok(())
 }
 
 #[test]
 fn what_is_pushed_is_read_first(rt: HostRuntime) -> Result<(), Fail> {
-    let alloc = rt.alloc();
-    let store = store(alloc)?;
+    let store = store(rt.alloc())?;
     let mut units = Units {
         used: 10,
         budget: 20,
     };
-    let mut input = input(alloc, "abc")?;
-    assert_eq!(rt; input.raw(), Some(Tok { kind: Kind::Char('a'), at: 0 }));
-    input.push(Body::from_vec(toks(alloc, "Fx", 40)?)?)?;
-    input.push(Body::from_vec(toks(alloc, "", 50)?)?)?;
-    input.push(Body::from_vec(toks(alloc, "Zy", 60)?)?)?;
-    // `Z` has no macro; the text of `F` has the places of its body, and that of its argument.
-    let wanted = [
-        (Kind::Word('Z' as u32), 60, 10),
-        (Kind::Char('y'), 61, 10),
-        (Kind::Char('('), 100, 14),
-        (Kind::Char('x'), 41, 14),
-        (Kind::Char(')'), 102, 14),
-        (Kind::Char('b'), 1, 14),
-        (Kind::Char('c'), 2, 14),
-    ];
-    for (kind, at, used) in &wanted {
-        let tok = Tok {
-            kind: *kind,
-            at: *at,
-        };
-        match input.next(&store, &mut units) {
-            Ok(front) => assert_eq!(rt; front, Some(tok)),
-            Err(_) => assert!(rt; false, "{at}"),
-        }
-        assert_eq!(rt; units.used, *used);
-    }
-    assert_eq!(rt; input.next(&store, &mut units), Ok(None));
-    assert_eq!(rt; input.raw(), None);
+    let mut input = input(rt.alloc(), "bc")?;
+    input.push(Body::new(rt.alloc(), &[])?)?;
+    input.push(Body::from_vec(toks(rt.alloc(), "Fx", 40)?)?)?;
+    // The text of `F` has the places of its body.
+    let front = next_of(rt.alloc(), &store, &mut input, &mut units)?;
+    assert_eq!(rt; front.as_str(), "100");
+    assert_eq!(rt; units.used, 14);
     assert_eq!(rt; input.end(), 77);
+    assert_eq!(rt; rest_of(rt.alloc(), input)?.as_str(), "x)bc");
     Ok(())
 }
 
@@ -320,13 +305,9 @@ fn a_cost_is_paid_up_to_the_budget(rt: HostRuntime) {
         used: 18_446_744_073_709_551_614,
         budget: 18_446_744_073_709_551_615,
     };
-    let fault = Fault {
-        code: Code::Budget,
-        at: 3,
-    };
-    assert_eq!(rt; units.pay(2, 3), Err(fault));
-    assert_eq!(rt; units.pay(1, 3), Ok(()));
-    assert_eq!(rt; units.pay(0, 3), Ok(()));
-    assert_eq!(rt; units.pay(1, 3), Err(fault));
+    assert!(rt; units.pay(2, 3).is_err());
+    assert!(rt; units.pay(1, 3).is_ok());
+    assert!(rt; units.pay(0, 3).is_ok());
+    assert!(rt; units.pay(1, 3).is_err());
     assert_eq!(rt; units.used, 18_446_744_073_709_551_615);
 }

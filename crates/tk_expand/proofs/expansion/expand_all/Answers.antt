@@ -21,4 +21,4 @@ loop-text-preserved c = record {
 pub returns-clause-gives : goal.returns-clause-gives
 returns-clause-gives c =
     full_ends c.args.units.now.budget c.args.store.now.top.macros (left c.loop-text.units.used c.loop-text.input.rest) c.loop-text.units.budget c.loop-text.invariant.budget c.loop-text.text.items _ c.loop-text.invariant.told c.next.new.units.used
-      (rw c.in_default.is at c.in_ok-tok.ensures.gives ∙ ap (λ (r : List Tok). (let x : Answer Left = Ok (left c.next.new.units.used r) in x)) (rw c.in_default.is at c.in_ok-tok.ensures.none))
+    (rw c.in_default.is at c.in_ok-tok.ensures.gives ∙ ap (λ (r : List Tok). (let x : Answer Left = Ok (left c.next.new.units.used r) in x)) (rw c.in_default.is at c.in_ok-tok.ensures.none))

@@ -16,11 +16,11 @@ returns-then-closes_nothing-clause-gives c =
 pub loop-tok-preserved : goal.loop-tok-preserved
 loop-tok-preserved c = record {
   told =
-    goes (wanted_by c.args.stop) c.loop-tok.depth c.loop-tok.front.items c.loop-tok.self.rest _ c.loop-tok.invariant.told c.in-Some.tok c.raw.new.self.rest c.in-Some.ensures.rest (sym c.is.ensures ∙ c.if-is.false) (sym c.closes_nothing.ensures ∙ c.if-closes_nothing.false)
+      goes (wanted_by c.args.stop) c.loop-tok.depth c.loop-tok.front.items c.loop-tok.self.rest _ c.loop-tok.invariant.told c.in-Some.tok c.raw.new.self.rest c.in-Some.ensures.rest (sym c.is.ensures ∙ c.if-is.false) (sym c.closes_nothing.ensures ∙ c.if-closes_nothing.false)
       c.push.new.self.items c.depth_after-depth.result c.in_ok-push.ensures.items c.depth_after-depth.ensures.depth;
   kept =
-    ap (λ (ts : List Tok). ts ++ c.raw.new.self.rest) c.in_ok-push.ensures.items ∙ append_assoc c.loop-tok.front.items (c.in-Some.tok ∷ []) c.raw.new.self.rest
-    ∙ ap (λ (ts : List Tok). c.loop-tok.front.items ++ ts) (sym c.in-Some.ensures.rest) ∙ c.loop-tok.invariant.kept;
+      ap (λ (ts : List Tok). ts ++ c.raw.new.self.rest) c.in_ok-push.ensures.items ∙ append_assoc c.loop-tok.front.items (c.in-Some.tok ∷ []) c.raw.new.self.rest
+      ∙ ap (λ (ts : List Tok). c.loop-tok.front.items ++ ts) (sym c.in-Some.ensures.rest) ∙ c.loop-tok.invariant.kept;
   end = c.in-Some.ensures.end ∙ c.loop-tok.invariant.end;
   deep = omega (arith, c.depth_after-depth.ensures.within, c.loop-tok.invariant.deep, c.in_ok-push.ensures.len);
 }

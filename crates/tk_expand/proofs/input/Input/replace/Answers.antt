@@ -13,14 +13,14 @@ pub returns-in_err-pay_for-clause-gives : goal.returns-in_err-pay_for-clause-giv
 returns-in_err-pay_for-clause-gives c =
     let p = err_from_is_err_and c.from_residual-in_err-pay_for.result c.from_residual-in_err-pay_for.ensures.1 in
     rw (p.1, p.2) (replaced_by c.args.units.now.budget c.args.units.now.used c.args.called.now c.args.at c.args.self.now.rest (texts_of c.in_ok-arguments.arguments.items) c.arguments.new.self.rest c.in_ok-arguments.ensures.gives
-      (texts_of c.deref.result.now) (ap texts_of c.deref.ensures.value) c.as_slice.result.now c.as_slice.ensures (Err c.in_err-pay_for.field-0.0) c.in_err-pay_for.ensures.pays)
+    (texts_of c.deref.result.now) (ap texts_of c.deref.ensures.value) c.as_slice.result.now c.as_slice.ensures (Err c.in_err-pay_for.field-0.0) c.in_err-pay_for.ensures.pays)
 
 pub returns-clause-gives : goal.returns-clause-gives
 returns-clause-gives c =
     let same : texts_of c.deref.result.now ≡ texts_of c.deref-2.result.now = ap texts_of (c.deref.ensures.value ∙ sym c.deref-2.ensures.value) in
     let text : c.in_ok-text.text ≡ with_arguments (texts_of c.deref.result.now) c.as_slice.result.now =
-      c.in_ok-text.ensures ∙ ap (λ (texts : List (List Tok)). with_arguments texts c.args.called.now.body) (sym same) ∙ ap (with_arguments (texts_of c.deref.result.now)) (sym c.as_slice.ensures) in
+    c.in_ok-text.ensures ∙ ap (λ (texts : List (List Tok)). with_arguments texts c.args.called.now.body) (sym same) ∙ ap (with_arguments (texts_of c.deref.result.now)) (sym c.as_slice.ensures) in
     replaced_by c.args.units.now.budget c.args.units.now.used c.args.called.now c.args.at c.args.self.now.rest (texts_of c.in_ok-arguments.arguments.items) c.arguments.new.self.rest c.in_ok-arguments.ensures.gives
-      (texts_of c.deref.result.now) (ap texts_of c.deref.ensures.value) c.as_slice.result.now c.as_slice.ensures (Ok c.pay_for.new.units.used) c.in_ok-pay_for.ensures.pays
+    (texts_of c.deref.result.now) (ap texts_of c.deref.ensures.value) c.as_slice.result.now c.as_slice.ensures (Ok c.pay_for.new.units.used) c.in_ok-pay_for.ensures.pays
     ∙ ap (λ (front : List Tok). (let x : Answer Left = Ok (left c.pay_for.new.units.used (front ++ c.arguments.new.self.rest)) in x)) (sym text)
     ∙ ap (λ (u : Unread). (let x : Answer Left = Ok (left c.pay_for.new.units.used u.rest) in x)) (sym c.in_ok-push.ensures)
