@@ -1,19 +1,18 @@
 -- Where no macro has a place of an argument that it doesn't have, the expansion of a list without such places has none.
-use Rattle.std.specs.Prelude.{◌≡◌, ℕ, zero, suc, ◌+◌, ◌-◌, ◌<◌, ◌≤◌, Bool, true, false, ◌&&◌, ◌==◌, if◌then◌else◌, List, [], ◌∷◌, ◌++◌, length, drop, slice_get, unwrap_or, Option, Some, None, Ok, Err, IfSome, IfOk}
+use Rattle.std.specs.Prelude.{◌≡◌, ℕ, zero, suc, ◌-◌, ◌<◌, Bool, true, false, ◌&&◌, ◌==◌, if◌then◌else◌, List, [], ◌∷◌, ◌++◌, length, drop, slice_get, unwrap_or, Option, Some, None, Ok, Err, IfSome, IfOk}
 use Rattle.std.specs.List.{All, AllByRecursion, prefix_len}
-use Rattle.std.proofs.Common.{refl, sym, ap, subst, ◌∙◌, arith, get_or}
-use Rattle.std.specs.FinMap as map
+use Rattle.std.proofs.Common.{refl, sym, subst, arith, get_or}
 use Rattle.tk_token.specs.declared.Kind.{Kind}
 use Rattle.tk_token.specs.declared.Kind.TheVariants.{Char, Word, Symbol, Open, Close, Param, Arg, Space}
 use Rattle.tk_token.specs.declared.Tok.{Tok}
 use Rattle.tk_token.specs.declared.Code.TheVariants.{MacroArg, Budget}
-use Rattle.tk_token.specs.Answers.{Answer, ◌>>=◌, fault, or_fault}
+use Rattle.tk_token.specs.Answers.{Answer, fault, or_fault}
 use Rattle.tk_token.specs.Groups.{Cut, cut, with_first, is_close, depth_after, before_in}
 use Rattle.tk_token.proofs.Answering.{then_holds, or_fault_holds, known_of}
 use Rattle.tk_token.proofs.Fixpoint.{kept}
 use Rattle.tk_store.specs.declared.Macro.{Macro}
 use Rattle.tk_store.specs.Levels.{Macros}
-use Rattle.tk_expand.specs.Arguments.{is_space, after_spaces, argument_from, argument_in, argument_of, Arguments, given, arguments_of, meant_by, with_arguments, text_of}
+use Rattle.tk_expand.specs.Arguments.{is_space, after_spaces, argument_from, argument_in, argument_of, Arguments, arguments_of, meant_by, with_arguments, text_of}
 use Rattle.tk_expand.specs.Expand.{pay, Left, left, called_by, cost_of, replaced, front_token, front_list, front_step, work, front, full_list, full_step, full}
 use Rattle.tk_define.specs.Bodies.{IsArgOf, IsProper}
 use Rattle.tk_define.specs.Definitions.{AreProper}

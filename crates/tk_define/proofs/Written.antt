@@ -11,7 +11,7 @@ use Rattle.tk_token.specs.Refusals.{Fails}
 use Rattle.tk_token.proofs.Answering.{fails_then, fails_as, then_is}
 use Rattle.tk_define.specs.Parts.{is_param, misfit, Read, read}
 use Rattle.tk_define.specs.Bodies.{itself, meant_by, body_of}
-use Rattle.tk_define.specs.Fronts.{hash_of, front_of}
+use Rattle.tk_define.specs.Fronts.{front_of}
 
 -- tokens stand before a body
 abbrev pub onto : List Tok → Answer (List Tok) → Answer (List Tok)

@@ -1,4 +1,4 @@
--- The bodies of macros.
+-- The bodies of macros (Knuth, TeX: The Program, sections 477 and 479).
 use Rattle.std.specs.Prelude.{ℕ, ◌≤◌, nat_le, ◌&&◌, if◌then◌else◌, List, [], ◌∷◌, Option, Some, None, Ok}
 use Rattle.std.specs.List.{All}
 use Rattle.tk_token.specs.declared.Kind.{Kind}

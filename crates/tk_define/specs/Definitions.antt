@@ -3,7 +3,6 @@ use Rattle.std.specs.Prelude.{ℕ, List, Ok, IfSome}
 use Rattle.std.specs.FinMap as map
 use Rattle.tk_token.specs.declared.Tok.{Tok}
 use Rattle.tk_token.specs.Answers.{Answer, ◌>>=◌}
-use Rattle.tk_store.specs.declared.Macro.{Macro}
 use Rattle.tk_store.specs.Levels.{Macros}
 use Rattle.tk_expand.specs.Unread.{Unread}
 use Rattle.tk_expand.specs.Expand.{left, full}
@@ -18,7 +17,7 @@ use Rattle.tk_define.specs.Bodies.{body_in, IsProper}
 abbrev pub stands_for : ℕ → ℕ → List Tok → Definition
 stands_for word args body = record { word = word; value = record { args = args; body = body } }
 
--- `\def`: the word, its parameters, and its body
+-- `\def`: the word, its parameters, and its body, with no Space between them
 unfoldable pub def : ℕ → List Tok → Answer (Read Definition)
 def end ts = do
   name ← said_by word_of end ts

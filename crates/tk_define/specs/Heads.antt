@@ -1,5 +1,5 @@
 -- The heads of definitions: what stands between the command and the body.
-use Rattle.std.specs.Prelude.{ℕ, zero, suc, ◌+◌, ◌==◌, if◌then◌else◌, List, [], ◌∷◌, Ok}
+use Rattle.std.specs.Prelude.{ℕ, zero, suc, ◌+◌, ◌==◌, if◌then◌else◌, List, Ok}
 use Rattle.tk_token.specs.declared.Kind.{Kind}
 use Rattle.tk_token.specs.declared.Kind.TheVariants.{Char, Word, Open}
 use Rattle.tk_token.specs.declared.Tok.{Tok}
@@ -8,7 +8,7 @@ use Rattle.tk_token.specs.Groups.{is_sign, is_close}
 use Rattle.tk_expand.specs.Arguments.{after_spaces}
 use Rattle.tk_define.specs.Parts.{is_open, is_param, is_digit, word_of, digit_of, misfit, Read, read, next_token, behind, said_by}
 
--- ---- the parameters of `\def` (Knuth, TeX: The Program, section 476, for parameters with nothing between them)
+-- ---- the parameters of `\def` (Knuth, TeX: The Program, sections 474 to 476, for parameters that nothing delimits)
 
 -- The parameters, up to the `{` of the body: how many there are, where so many were read, and so many more can come.
 unfoldable pub parameters : ℕ → ℕ → ℕ → List Tok → Answer (Read ℕ)
@@ -21,7 +21,7 @@ parameters end count (suc more) ts = do
       then (behind (is_digit (count + 1)) end next.rest >>= λ rest. parameters end (suc count) more rest)
       else (behind is_open end ts >>= λ rest. Ok (read count rest))
 
--- ---- the parts of `\newcommand`, between which Spaces may stand
+-- ---- the parts of `\newcommand`, before each of which Spaces may stand
 
 -- the first token of the name: a `*` may stand before it
 unfoldable pub name_start : ℕ → List Tok → Answer (Read Tok)

@@ -1,8 +1,7 @@
-use Rattle.std.proofs.Common.{◌≡◌, List, [], ◌∷◌, ◌++◌, length, vec_len, ◌∙◌, sym, ap, arith}
-use Rattle.tk_token.specs.declared.Tok.{Tok}
+use Rattle.std.proofs.Common.{length, ◌∙◌, sym, ap, arith}
 use Rattle.tk_token.specs.declared.Code.TheVariants.{MacroSyntax}
 use Rattle.tk_token.specs.Answers.{Answer, or_fault}
-use Rattle.tk_token.specs.Groups.{Cut, is_close, before_in}
+use Rattle.tk_token.specs.Groups.{Cut, is_close}
 use Rattle.std.specs.Prelude.{Option}
 use Rattle.tk_expand.proofs.Groups.{ends, finds, goes}
 use Rattle.tk_define.proofs.Misfits.{misfit_fails}

@@ -1,4 +1,4 @@
-use Rattle.std.proofs.Common.{◌≡◌, sym, subst, arith}
+use Rattle.std.proofs.Common.{sym, subst, arith}
 use Rattle.tk_define.specs.declared.Definition.{Definition}
 use Rattle.tk_define.specs.Bodies.{IsProper}
 use Rattle.tk_define.proofs.Kept.{expanded_proper}

@@ -1,5 +1,4 @@
-use Rattle.std.proofs.Common.{◌≡◌, length, ap, ◌∙◌, arith}
-use Rattle.tk_token.specs.declared.Tok.{Tok}
+use Rattle.std.proofs.Common.{length, ap, ◌∙◌, arith}
 use Rattle.tk_expand.proofs.Spaces.{passed_over}
 use Rattle.tk_define.proofs.parts.next_part.Goals as goal
 
