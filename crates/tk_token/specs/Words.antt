@@ -1,6 +1,6 @@
 -- Lists of words, each word as its bytes.
-use Rattle.std.specs.Prelude.{◌≡◌, ℕ, ◌<◌, Bool, List, [], ◌∷◌, ◌++◌, length, unwrap_or, if◌then◌else◌}
-use Rattle.std.specs.List.{list_any, slice_get, position}
+use Rattle.std.specs.Prelude.{◌≡◌, ℕ, ◌<◌, Bool, List, [], ◌∷◌, ◌++◌, length, if◌then◌else◌}
+use Rattle.std.specs.List.{list_any, slice_get, position_or_len}
 use Rattle.std.specs.Str.{bytes_eq}
 use Rattle.tk_token.specs.declared.Kind.{Kind}
 use Rattle.tk_token.specs.declared.Kind.TheVariants.{Char, Word, Symbol, Open, Close, Param, Arg, Space}
@@ -37,7 +37,7 @@ words_of ts = with_words [] ts
 
 -- the number of a word is its place in the list
 abbrev pub number_of : List (List ℕ) → List ℕ → ℕ
-number_of words word = unwrap_or (position (bytes_eq word) words) 0
+number_of words word = position_or_len (bytes_eq word) words
 
 -- what a sign is, where words go by their numbers
 abbrev pub kind_of : List (List ℕ) → Sign → Kind
