@@ -128,6 +128,138 @@ fn a_source_is_asked_whole_first(rt: HostRuntime) -> Result<(), Fail> {
     Ok(())
 }
 
+/// The document of one path: its size in points, its view box and its data.
+fn document(
+    alloc: Global,
+    width: &str,
+    height: &str,
+    view_box: &str,
+    data: &str,
+) -> Result<String, AllocError> {
+    format!(in alloc;
+        "<?xml version=\"1.0\" encoding=\"UTF-8\"?>
+<svg xmlns=\"http://www.w3.org/2000/svg\" version=\"1.1\" width=\"{width}pt\" height=\"{height}pt\" viewBox=\"{view_box}\" font-family=\"monospace\" font-size=\"10\">
+<path d=\"{data}\" fill=\"none\" stroke=\"#000000\" stroke-width=\"0.4\" stroke-miterlimit=\"10\"/>
+</svg>
+"
+    )
+}
+
+/// A box is that of the points, widened by half the pen, 13107 scaled points. A size is 800/803 of the box's.
+#[test]
+fn coordinates_are_expressions(rt: HostRuntime) -> Result<(), Fail> {
+    for (line, width, height, view_box, data) in [
+        // The box begins at (-13107, -16179), is 27238 wide and 29286 high; the sizes are 27136 and 29176.
+        (
+            "\\draw (1024sp,3072sp) -- (0pt,0pt);",
+            "0.41406",
+            "0.44519",
+            "-0.2 -0.24687 0.41562 0.44687",
+            "M0.01563 -0.04688L0 0",
+        ),
+        // The greatest length, 1073741823 scaled points. The box is 1073768037 wide; the size is 1069756450.
+        (
+            "\\draw (16383.99998pt,0pt) -- (0pt,0pt);",
+            "16323.18802",
+            "0.3985",
+            "-0.2 -0.2 16384.39998 0.4",
+            "M16383.99998 0L0 0",
+        ),
+        // The points are (1614863, 932339), (1722671, 713537) and (0, -1864679). The box begins at (-13107, -945446), is
+        // 1748885 wide and 2823232 high; the sizes are 1742351 and 2812684.
+        (
+            "\\draw (30:1) -- (22.5:1) -- (-90:1);",
+            "26.58617",
+            "42.91815",
+            "-0.2 -14.42636 26.68587 43.0791",
+            "M24.64085 -14.22636L26.28587 -10.88771L0 28.45274",
+        ),
+        // 7cm are 13052753, and the root of two points is 92681. The box begins at (-13107, -105788), is 13078967 wide
+        // and 118895 high; the sizes are 13030104 and 118450.
+        (
+            "\\draw ({1+2*3},{sqrt(2)*1pt}) -- (0,0);",
+            "198.82361",
+            "1.8074",
+            "-0.2 -1.6142 199.5692 1.8142",
+            "M199.1692 -1.4142L0 0",
+        ),
+    ] {
+        let file = picture(rt.alloc(), line)?;
+        let ran = run_with(rt.alloc(), &["render", "p.tex"], file, SOUND, SOUND, SOUND)?;
+        let expected = document(rt.alloc(), width, height, view_box, data)?;
+        assert_eq!(rt; ran.err.bytes(), b"".as_slice(), "at {line}");
+        assert_eq!(rt; ran.out.bytes(), expected.as_bytes(), "at {line}");
+        assert_eq!(rt; ran.status, 0, "at {line}");
+    }
+    Ok(())
+}
+
+#[test]
+fn coordinates_have_their_first_fault(rt: HostRuntime) -> Result<(), Fail> {
+    for (line, said) in [
+        ("\\draw (16384pt,0pt) -- (0pt,0pt);", "2:8: TooLarge"),
+        ("\\draw (1/0,0) -- (0,0);", "2:9: DivZero"),
+        ("\\draw (0,0) -- (1,\n1/0);", "3:2: DivZero"),
+        ("\\draw ({sqrt(-1)},0);", "2:9: Domain"),
+        ("\\draw (1+,0);", "2:9: Expression"),
+        ("\\draw (0,1)--(,0);", "2:14: Expression"),
+        (
+            "\\draw ({(((((((((((((((((((((((((((((((((((((((((((((((((((((((((((((((((1)))))))))))))))))))))))))))))))))))))))))))))))))))))))))))))))))},0);",
+            "2:73: TooDeep",
+        ),
+        ("\\draw (1,2,3);", "2:7: Coordinate"),
+        ("\\draw (600,0 -- (0,0);", "2:7: Coordinate"),
+        ("\\draw (1,0 |- 0,1);", "2:7: Unbuilt"),
+        ("\\draw (a);", "2:7: Unbuilt"),
+        ("\\draw (0,0});", "2:11: Brace"),
+        ("\\draw (0,0;", "4:1: Unbuilt"),
+    ] {
+        let file = picture(rt.alloc(), line)?;
+        let ran = run_with(rt.alloc(), &["render", "p.tex"], file, SOUND, SOUND, SOUND)?;
+        let expected = format!(in rt.alloc(); "p.tex:{said}\n")?;
+        assert_eq!(rt; ran.err.bytes(), expected.as_bytes(), "at {line}");
+        assert_eq!(rt; ran.out.bytes(), b"".as_slice(), "at {line}");
+        assert_eq!(rt; ran.status, 1, "at {line}");
+    }
+    Ok(())
+}
+
+/// A macro's text takes the place of its call, and what a group defines ends with it.
+#[test]
+fn macros_and_groups(rt: HostRuntime) -> Result<(), Fail> {
+    for (line, status, out, err) in [
+        (
+            "\\newcommand{\\seg}[2]{\\draw (#1) -- (#2);}\\seg{0,0}{1,0}",
+            0,
+            LINE,
+            "",
+        ),
+        ("\\def\\g{\\draw (0,0) -- (1,0);}\\g", 0, LINE, ""),
+        (
+            "\\def\\o{0}{\\def\\o{1}}\\draw (\\o,0) -- (1,0);",
+            0,
+            LINE,
+            "",
+        ),
+        (
+            "{\\def\\o{0}}\\draw (\\o,0);",
+            1,
+            "",
+            "p.tex:2:19: Expression\n",
+        ),
+        ("\\def\\h#1{#1}{\\h}", 1, "", "p.tex:2:14: MacroArg\n"),
+        ("\\def\\h#2{}", 1, "", "p.tex:2:8: MacroSyntax\n"),
+        ("\\def\\f#1{\\f{#1#1}}\\f{x}", 1, "", "p.tex:2:10: Budget\n"),
+    ] {
+        let file = picture(rt.alloc(), line)?;
+        let ran = run_with(rt.alloc(), &["render", "p.tex"], file, SOUND, SOUND, SOUND)?;
+        assert_eq!(rt; ran.err.bytes(), err.as_bytes(), "at {line}");
+        assert_eq!(rt; ran.out.bytes(), out.as_bytes(), "at {line}");
+        assert_eq!(rt; ran.status, status, "at {line}");
+    }
+    Ok(())
+}
+
 #[test]
 fn other_words_are_faulty(rt: HostRuntime) -> Result<(), Fail> {
     let cases: [&[&str]; 8] = [
