@@ -1,3 +1,4 @@
+pub mod Drawn
 pub mod Forms
 pub mod Saying
 pub mod Statuses

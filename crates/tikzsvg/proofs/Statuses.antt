@@ -1,5 +1,5 @@
 -- What the status of an answer tells.
-use Rattle.std.proofs.Common.{◌≡◌, ◌≢◌, ◌⊎◌, inl, inr, ℕ, ◌<◌, ◌≤◌, List, [], length, Some, None, Result, Ok, Err, IfSome, unwrap_or, refl, sym, subst, ◌∙◌, arith}
+use Rattle.std.proofs.Common.{◌≡◌, ◌≢◌, ◌⊎◌, inl, inr, ℕ, ◌<◌, ◌≤◌, List, [], length, Some, None, Result, Ok, Err, IfSome, unwrap_or, refl, ap, sym, subst, ◌∙◌, arith}
 use denote.Enum.Declared.{tag_of}
 use Rattle.tk_token.specs.declared.Fault.{Fault}
 use Rattle.tk_item.specs.declared.Drawing.{Drawing}
@@ -7,14 +7,16 @@ use Rattle.tk_io.specs.Shelf.{Shelved, Counts}
 use Rattle.tk_io.specs.Sink.{Takes}
 use Rattle.tk_svg.specs.Document.{IsDocument}
 use Rattle.tk_svgwrite.specs.Plain.{document_text}
-use Rattle.tk_picture.specs.Outcome.{IsOutcome}
+use Rattle.tk_picture.specs.declared.Compiled.{Compiled}
+use Rattle.tk_picture.proofs.Outcomes.{one_outcome}
+use Rattle.tikzsvg.specs.declared.document.TheConstants.{BUDGET}
 use Rattle.tikzsvg.specs.declared.program.Status.{Status}
 use Rattle.tikzsvg.specs.declared.program.Status.TheVariants as statuses
 use Rattle.tikzsvg.specs.contracts.program.Status.{the_type}
 use Rattle.tikzsvg.specs.Words.{Render, command_of}
 use Rattle.tikzsvg.specs.Lines.{fault_line, too_long_line}
 use Rattle.tk_io.specs.declared.reading.TheConstants.{MOST_BYTES}
-use Rattle.tikzsvg.specs.Run.{World, Holds, WasRead, WasTooLong, Says, Done, HasFault, IsTooLong, IsUsage, ReadFails, WriteFails, LacksMemory, Asks, DidNotFail, Runs}
+use Rattle.tikzsvg.specs.Run.{World, ComesTo, Holds, WasRead, WasTooLong, Says, Done, HasFault, IsTooLong, IsUsage, ReadFails, WriteFails, LacksMemory, Asks, DidNotFail, Runs}
 use Rattle.tikzsvg.specs.Answers.{Renders, done, fault, too_long, read_fault, write_fault, out_of_memory, Answers, renders, usage}
 
 -- the number of a status
@@ -149,16 +151,24 @@ same_source shelf after file source read h w = subst (λ o. IfSome o (λ holds. 
 long_source : (shelf after : Shelved) (file source : List ℕ) → Holds shelf file source → WasTooLong file shelf after → MOST_BYTES < length source
 long_source shelf after file source h w = subst (λ (bytes : List ℕ). MOST_BYTES < length bytes) (sym h.is) (subst (λ o. IfSome o (λ holds. MOST_BYTES < length (unwrap_or (holds file) []))) h.told w.long)
 
--- a source has one outcome
-abbrev pub OneOutcome : Type 0
-OneOutcome = (source : List ℕ) (r s : Result Drawing Fault) → IsOutcome source r → IsOutcome source s → r ≡ s
+-- the drawing of what was compiled
+abbrev drawing_of : Result Compiled Fault → Result Drawing Fault
+drawing_of (Ok c) = Ok c.drawing
+drawing_of (Err f) = Err f
 
-module _ (one : OneOutcome) (b a : World) (file source : List ℕ) (holds : Holds b.shelf file source) where
+-- a source comes to one drawing or fault
+one : (source : List ℕ) (r s : Result Drawing Fault) → ComesTo source r → ComesTo source s → r ≡ s
+one source (Ok d) (Ok e) x y = ap drawing_of (one_outcome BUDGET source _ _ x.1 y.1)
+one source (Ok d) (Err g) x y = ap drawing_of (one_outcome BUDGET source _ _ x.1 y)
+one source (Err f) (Ok e) x y = ap drawing_of (one_outcome BUDGET source _ _ x y.1)
+one source (Err f) (Err g) x y = ap drawing_of (one_outcome BUDGET source _ _ x y)
+
+module _ (b a : World) (file source : List ℕ) (holds : Holds b.shelf file source) where
   -- what was drawn or broken was this source
-  drawn_is : (read : List ℕ) (r s : Result Drawing Fault) → WasRead file read b.shelf a.shelf → IsOutcome read r → IsOutcome source s → r ≡ s
-  drawn_is read r s w is this = one source r s (subst (λ (bytes : List ℕ). IsOutcome bytes r) (same_source b.shelf a.shelf file source read holds w) is) this
+  drawn_is : (read : List ℕ) (r s : Result Drawing Fault) → WasRead file read b.shelf a.shelf → ComesTo read r → ComesTo source s → r ≡ s
+  drawn_is read r s w is this = one source r s (subst (λ (bytes : List ℕ). ComesTo bytes r) (same_source b.shelf a.shelf file source read holds w) is) this
 
-  completes_at : {s : Status} (drawing : Drawing) → Renders file b a s → length source ≤ MOST_BYTES → IsOutcome source (Ok drawing) → DidNotFail (b.shelf.faults file) (a.shelf.faults file) → DidNotFail b.out.faults a.out.faults → ((number s ≡ 0) × Takes b.out a.out (document_text drawing) × IsDocument (document_text drawing) drawing) ⊎ (number s ≡ 5)
+  completes_at : {s : Status} (drawing : Drawing) → Renders file b a s → length source ≤ MOST_BYTES → ComesTo source (Ok drawing) → DidNotFail (b.shelf.faults file) (a.shelf.faults file) → DidNotFail b.out.faults a.out.faults → ((number s ≡ 0) × Takes b.out a.out (document_text drawing) × IsDocument (document_text drawing) drawing) ⊎ (number s ≡ 5)
   completes_at drawing (done r) short is reads writes =
       let this = ok_same r.drawing drawing (Ok drawing) (sym (drawn_is r.drawn.source (Ok r.drawing) (Ok drawing) r.drawn.read r.drawn.is is)) refl in
       inl (refl, subst (λ (d : Drawing). Takes b.out a.out (document_text d)) this r.written, subst (λ (d : Drawing). IsDocument (document_text d) d) this r.means)
@@ -168,7 +178,7 @@ module _ (one : OneOutcome) (b a : World) (file source : List ℕ) (holds : Hold
   completes_at drawing (write_fault r) short is reads writes = absurd (writes r.cause)
   completes_at drawing (out_of_memory r) short is reads writes = inr refl
 
-  names_at : {s : Status} (f : Fault) → Renders file b a s → length source ≤ MOST_BYTES → IsOutcome source (Err f) → DidNotFail (b.shelf.faults file) (a.shelf.faults file) → ((number s ≡ 1) × Says b.err a.err (fault_line file source f)) ⊎ (number s ≡ 5)
+  names_at : {s : Status} (f : Fault) → Renders file b a s → length source ≤ MOST_BYTES → ComesTo source (Err f) → DidNotFail (b.shelf.faults file) (a.shelf.faults file) → ((number s ≡ 1) × Says b.err a.err (fault_line file source f)) ⊎ (number s ≡ 5)
   names_at f (done r) short is reads = absurd (ok_is_no_err r.drawing f (Err f) (sym (drawn_is r.drawn.source (Ok r.drawing) (Err f) r.drawn.read r.drawn.is is)) refl)
   names_at f (fault r) short is reads =
       let same = same_source b.shelf a.shelf file source r.source holds r.broken.read in
@@ -197,8 +207,8 @@ renders_of words b a s file (renders other asked r) this = subst (λ (f : List �
 renders_of words b a s file (usage none u) this = absurd (nothing_asked file (sym none ∙ this))
 
 -- a run, from what was answered
-pub run_of : OneOutcome → (words : List (List ℕ)) (b a : World) (s : Status) → Answers words b a s → ((file : List ℕ) → command_of words ≡ Some (Render file) → Counts file b.shelf a.shelf) → Runs words b a (number s)
-run_of one words b a s answer counts = record {
+pub run_of : (words : List (List ℕ)) (b a : World) (s : Status) → Answers words b a s → ((file : List ℕ) → command_of words ≡ Some (Render file) → Counts file b.shelf a.shelf) → Runs words b a (number s)
+run_of words b a s answer counts = record {
   known = number_small s;
   done = done_of answer;
   refused = fault_of answer;
@@ -208,9 +218,9 @@ run_of one words b a s answer counts = record {
   write = write_fault_of answer;
   memory = memory_of answer;
   untouched = untouched_of answer;
-  completes = λ file source drawing asked holds short is reads writes. completes_at one b a file source holds drawing (renders_of words b a s file answer asked) short is reads writes;
-  names_fault = λ file source f asked holds short is reads. names_at one b a file source holds f (renders_of words b a s file answer asked) short is reads;
-  refuses_long = λ file source asked holds long reads. refuses_at one b a file source holds (renders_of words b a s file answer asked) long reads;
+  completes = λ file source drawing asked holds short is reads writes. completes_at b a file source holds drawing (renders_of words b a s file answer asked) short is reads writes;
+  names_fault = λ file source f asked holds short is reads. names_at b a file source holds f (renders_of words b a s file answer asked) short is reads;
+  refuses_long = λ file source asked holds long reads. refuses_at b a file source holds (renders_of words b a s file answer asked) long reads;
   one_file = counts;
 }
 

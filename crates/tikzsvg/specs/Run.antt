@@ -1,6 +1,7 @@
 -- What each status of the program means.
 use Rattle.std.specs.Prelude.{◌≡◌, ◌≢◌, ◌↔◌, ◌⊎◌, ℕ, ◌+◌, ◌<◌, ◌≤◌, List, [], length, take, Option, Some, None, IfSome, Ok, Err, unwrap_or}
 use Rattle.tk_token.specs.declared.Fault.{Fault}
+use Rattle.tk_token.specs.Answers.{Answer}
 use Rattle.tk_item.specs.declared.Drawing.{Drawing}
 use Rattle.tk_io.specs.declared.reading.TheConstants.{MOST_BYTES}
 use Rattle.tk_io.specs.Causes.{Rose}
@@ -9,8 +10,14 @@ use Rattle.tk_io.specs.Sink.{Sunk, Takes}
 use Rattle.tk_svg.specs.Document.{IsDocument}
 use Rattle.tk_svgwrite.specs.Plain.{document_text}
 use Rattle.tk_picture.specs.Outcome.{IsOutcome}
+use Rattle.tikzsvg.specs.declared.document.TheConstants.{BUDGET}
 use Rattle.tikzsvg.specs.Words.{Render, command_of}
 use Rattle.tikzsvg.specs.Lines.{fault_line, too_long_line, read_fault_line, usage_line, write_fault_line, out_of_memory_line}
+
+-- what a source comes to with the program's budget: a drawing, or its first fault
+abbrev pub ComesTo : List ℕ → Answer Drawing → Type 0
+ComesTo source (Ok drawing) = (units : ℕ) × IsOutcome BUDGET source (Ok (record { drawing = drawing; units = units }))
+ComesTo source (Err fault) = IsOutcome BUDGET source (Err fault)
 
 -- what the shelf and the two sinks mean at a moment
 pub record World : Type 0 where
@@ -46,12 +53,12 @@ pub record WasTooLong (file : List ℕ) (before after : Shelved) : Type 0 where
 pub record Draws (file : List ℕ) (before after : Shelved) (drawing : Drawing) : Type 0 where
   pub source : List ℕ
   pub read : WasRead file source before after
-  pub is : IsOutcome source (Ok drawing)
+  pub is : ComesTo source (Ok drawing)
 
 -- the file was read, and has this fault
 pub record Breaks (file source : List ℕ) (before after : Shelved) (fault : Fault) : Type 0 where
   pub read : WasRead file source before after
-  pub is : IsOutcome source (Err fault)
+  pub is : ComesTo source (Err fault)
 
 -- ---- the statuses
 
@@ -125,14 +132,14 @@ DidNotFail before after = Rose before after → ⊥
 -- the document of a drawing is written, which reads back as that drawing, unless `out` fails or memory runs out
 abbrev pub Completes : List (List ℕ) → World → World → ℕ → Type 0
 Completes words before after status =
-    (file source : List ℕ) (drawing : Drawing) → command_of words ≡ Some (Render file) → Holds before.shelf file source → length source ≤ MOST_BYTES → IsOutcome source (Ok drawing)
+    (file source : List ℕ) (drawing : Drawing) → command_of words ≡ Some (Render file) → Holds before.shelf file source → length source ≤ MOST_BYTES → ComesTo source (Ok drawing)
     → DidNotFail (before.shelf.faults file) (after.shelf.faults file) → DidNotFail before.out.faults after.out.faults
     → ((status ≡ 0) × Takes before.out after.out (document_text drawing) × IsDocument (document_text drawing) drawing) ⊎ (status ≡ 5)
 
 -- a fault is named, unless memory runs out
 abbrev pub NamesFault : List (List ℕ) → World → World → ℕ → Type 0
 NamesFault words before after status =
-    (file source : List ℕ) (fault : Fault) → command_of words ≡ Some (Render file) → Holds before.shelf file source → length source ≤ MOST_BYTES → IsOutcome source (Err fault)
+    (file source : List ℕ) (fault : Fault) → command_of words ≡ Some (Render file) → Holds before.shelf file source → length source ≤ MOST_BYTES → ComesTo source (Err fault)
     → DidNotFail (before.shelf.faults file) (after.shelf.faults file)
     → ((status ≡ 1) × Says before.err after.err (fault_line file source fault)) ⊎ (status ≡ 5)
 

@@ -13,10 +13,12 @@ ghost use Rattle.tikzsvg.specs.declared.document.NoDocument.TheVariants.{OutOfMe
 use crate::lines::Placed;
 use std::alloc::{AllocError, Global};
 use tk_io::{ReadRefusal, Shelf, read_all};
-use tk_item::Drawing;
-use tk_picture::compile;
+use tk_picture::{Compiled, compile};
 use tk_svgwrite::write_svg;
 use tk_token::{Refusal, place};
+
+/// How many units a run may pay for the expansion of macros.
+pub const BUDGET: u64 = 10_000_000;
 
 /// Why a file gives no document.
 #[derive(Clone, Copy, Debug, PartialEq, Eq)]
@@ -61,21 +63,22 @@ pub fn document_of<H: Shelf>(
     ensures refused { IfErr result (λ e. Refuses file.now (H.meaning shelf.old) (H.meaning shelf.new) e) }
     ensures counts { Counts file.now (H.meaning shelf.old) (H.meaning shelf.new) }
 {
-    let drawing = drawing_of(alloc, shelf, file)?;
-    Ok(write_svg(alloc, &drawing)?)
+    let compiled = compiled_of(alloc, shelf, file)?;
+    Ok(write_svg(alloc, &compiled.drawing)?)
 }
 
-/// The drawing of a file.
-fn drawing_of<H: Shelf>(alloc: Global, shelf: &mut H, file: &str) -> Result<Drawing, NoDocument>
-    ensures drawing { IfOk result (λ d. Draws file.now (H.meaning shelf.old) (H.meaning shelf.new) d) }
-    ensures fits { IfOk result Fits }
-    ensures paths { IfOk result (λ d. AllByRecursion IsPath d.items) }
+/// What a file draws.
+#[tactic(auto, using(crate::proofs::Drawn::comes_to))]
+fn compiled_of<H: Shelf>(alloc: Global, shelf: &mut H, file: &str) -> Result<Compiled, NoDocument>
+    ensures drawing { IfOk result (λ c. Draws file.now (H.meaning shelf.old) (H.meaning shelf.new) c.drawing) }
+    ensures fits { IfOk result (λ c. Fits c.drawing) }
+    ensures paths { IfOk result (λ c. AllByRecursion IsPath c.drawing.items) }
     ensures refused { IfErr result (λ e. Refuses file.now (H.meaning shelf.old) (H.meaning shelf.new) e) }
     ensures counts { Counts file.now (H.meaning shelf.old) (H.meaning shelf.new) }
 {
     let source = read_all(alloc, shelf, file)?;
-    match compile(alloc, source.as_slice()) {
-        Ok(drawing) => Ok(drawing),
+    match compile(alloc, source.as_slice(), BUDGET) {
+        Ok(compiled) => Ok(compiled),
         Err(refusal) => Err(with_place(source.as_slice(), refusal)),
     }
 }

@@ -1,175 +1,116 @@
--- What stands at the front of a picture's tokens: names, numbers and coordinates. `end` is the place at which the tokens run out.
-use Rattle.std.specs.Prelude.{ℕ, ◌+◌, Bool, true, false, ◌==◌, nat_le, if◌then◌else◌, List, [], ◌∷◌, map, take, drop, Ok, ℤ, pos, neg_ℤ, codes}
-use Rattle.std.specs.Char.{is_ascii_digit}
-use Rattle.std.specs.List.{list_any, prefix_len}
+-- What stands next in a picture: as it is written, or once no macro call is in front.
+use Rattle.std.specs.Prelude.{ℕ, Bool, false, if◌then◌else◌, List, [], ◌∷◌, Option, Some, None, Ok, codes, unwrap_or}
+use Rattle.std.specs.List.{slice_get}
 use Rattle.std.specs.Str.{bytes_eq}
-use Rattle.tk_num.specs.Number.{is_scaled, product, decimal_value}
-use Rattle.tk_item.specs.declared.Point.{Point}
-use Rattle.tk_token.specs.declared.Code.TheVariants.{TooLarge, Unbuilt}
+use Rattle.tk_token.specs.declared.Kind.{Kind}
+use Rattle.tk_token.specs.declared.Kind.TheVariants.{Word, Open}
+use Rattle.tk_token.specs.declared.Tok.{Tok}
+use Rattle.tk_token.specs.declared.Code.TheVariants.{Budget, Unbuilt}
 use Rattle.tk_token.specs.Answers.{Answer, ◌>>=◌, fault}
-use Rattle.tk_token.specs.Token.{Sign, A_char, A_word, Opens, Closes, A_space, Token}
+use Rattle.tk_token.specs.Fix.{by_size}
+use Rattle.tk_token.specs.Groups.{is_sign, is_close}
+use Rattle.tk_store.specs.Levels.{Macros}
+use Rattle.tk_expand.specs.Arguments.{is_space, after_spaces}
+use Rattle.tk_expand.specs.Expand.{Left, left, work, front}
+use Rattle.tk_define.specs.Parts.{is_open}
+
+-- what a picture's tokens are read with: the words by their numbers, the place at which the tokens run out, and the budget
+pub record Run : Type 0 where
+  pub names : List (List ℕ)
+  pub end : ℕ
+  pub budget : ℕ
 
 -- ---- single tokens
 
--- that character
-abbrev pub is_char : ℕ → Sign → Bool
-is_char c (A_char d) = d == c
-is_char c _ = false
-
 -- `\` and that word
-abbrev pub is_word : List ℕ → Sign → Bool
-is_word w (A_word v) = bytes_eq v w
-is_word w _ = false
+abbrev pub is_word : List (List ℕ) → List ℕ → Kind → Bool
+is_word names word (Word n) = bytes_eq (unwrap_or (slice_get names n) []) word
+is_word names word _ = false
 
--- `{`
-abbrev pub is_open : Sign → Bool
-is_open Opens = true
-is_open _ = false
+-- such a token is there
+abbrev pub is_there : (Kind → Bool) → Option Tok → Bool
+is_there wanted None = false
+is_there wanted (Some t) = wanted t.kind
 
--- `}`
-abbrev pub is_close : Sign → Bool
-is_close Closes = true
-is_close _ = false
+-- where a token stands, or where they run out
+abbrev pub place_of : ℕ → Option Tok → ℕ
+place_of end None = end
+place_of end (Some t) = t.at
 
--- a gap
-abbrev pub is_space : Sign → Bool
-is_space A_space = true
-is_space _ = false
+-- nothing that could follow stands there
+abbrev pub unbuilt : {A : Type 0} → ℕ → Option Tok → Answer A
+unbuilt end first = fault Unbuilt (place_of end first)
 
--- `0` to `9`
-abbrev pub is_digit : Sign → Bool
-is_digit (A_char c) = is_ascii_digit c
-is_digit _ = false
+-- ---- tokens as they are written
 
--- where the first token stands, or where they run out
-abbrev pub place_of : ℕ → List Token → ℕ
-place_of end [] = end
-place_of end (t ∷ ts) = t.at
+-- what stands behind the first token, which has to be such a one
+unfoldable pub behind_first : (Kind → Bool) → ℕ → List Tok → Answer (List Tok)
+behind_first wanted end [] = unbuilt end None
+behind_first wanted end (t ∷ ts) = if wanted t.kind then Ok ts else unbuilt end (Some t)
 
--- nothing that could follow stands here
-abbrev pub unbuilt : {A : Type 0} → ℕ → List Token → Answer A
-unbuilt end ts = fault Unbuilt (place_of end ts)
+-- what stands behind the characters of a text, with nothing between them
+unfoldable pub behind_text : List ℕ → ℕ → List Tok → Answer (List Tok)
+behind_text [] end ts = Ok ts
+behind_text (c ∷ cs) end ts = behind_first (is_sign c) end ts >>= λ more. behind_text cs end more
 
--- whether such a token stands in front
-abbrev pub begins : (Sign → Bool) → List Token → Bool
-begins wanted [] = false
-begins wanted (t ∷ ts) = wanted t.sign
+-- what stands behind `{tikzpicture}`
+unfoldable pub behind_name : ℕ → List Tok → Answer (List Tok)
+behind_name end ts = do
+  inside ← behind_first is_open end (after_spaces ts)
+  name ← behind_text (codes "tikzpicture") end inside
+  behind_first is_close end name
 
--- the tokens after the spaces in front
-unfoldable pub after_spaces : List Token → List Token
-after_spaces ts = drop (prefix_len (λ (t : Token). is_space t.sign) ts) ts
+-- ---- tokens through expansion
 
--- the tokens after one that has to stand in front
-unfoldable pub expected : (Sign → Bool) → ℕ → List Token → Answer (List Token)
-expected wanted end ts = if begins wanted ts then Ok (drop 1 ts) else unbuilt end ts
+-- a token that was taken, if there was one, and what is left behind it
+pub record Taken : Type 0 where
+  pub first : Option Tok
+  pub left : Left
 
--- the tokens after one that has to stand there behind spaces
-unfoldable pub next : (Sign → Bool) → ℕ → List Token → Answer (List Token)
-next wanted end ts = expected wanted end (after_spaces ts)
+-- the first token is taken
+abbrev pub taken : ℕ → List Tok → Taken
+taken units [] = record { first = None; left = left units [] }
+taken units (t ∷ ts) = record { first = Some t; left = left units ts }
 
--- the tokens after one that may stand in front
-abbrev pub after_optional : (Sign → Bool) → List Token → List Token
-after_optional wanted ts = if begins wanted ts then drop 1 ts else ts
+-- what is left behind a token that was taken, which has to be such a one
+unfoldable pub behind : (Kind → Bool) → ℕ → Taken → Answer Left
+behind wanted end t = if is_there wanted t.first then Ok t.left else unbuilt end t.first
 
--- the tokens after the characters of a text, with nothing between them
-unfoldable pub after_text : List ℕ → ℕ → List Token → Answer (List Token)
-after_text [] end ts = Ok ts
-after_text (c ∷ cs) end ts = expected (is_char c) end ts >>= λ more. after_text cs end more
+module _ (run : Run) (macros : Macros) where
+  -- the next token
+  unfoldable pub next : Left → Answer Taken
+  next l = do
+    ahead ← front run.budget macros l
+    Ok (taken ahead.units ahead.rest)
 
--- the tokens after `{tikzpicture}`
-unfoldable pub after_name : ℕ → List Token → Answer (List Token)
-after_name end ts = do
-  inside ← next is_open end ts
-  behind ← after_text (codes "tikzpicture") end inside
-  expected is_close end behind
+  -- a Space in front is passed over
+  abbrev pub solid_list : (Left → Answer Left) → ℕ → List Tok → Answer Left
+  solid_list solid units [] = Ok (left units [])
+  solid_list solid units (t ∷ ts) = if is_space t.kind then solid (left units ts) else Ok (left units (t ∷ ts))
 
--- what was read, and the tokens after it
-pub record Read (A : Type 0) : Type 0 where
-  pub value : A
-  pub rest : List Token
+  -- one step, over the meaning of what has less work left
+  abbrev pub solid_step : (Left → Answer Left) → Left → Answer Left
+  solid_step solid l = do
+    ahead ← front run.budget macros l
+    solid_list solid ahead.units ahead.rest
 
--- ---- numbers
+  -- the tokens rewritten while a macro call or a Space is in front of them
+  unfoldable pub solid : Left → Answer Left
+  solid = by_size (work run.budget macros) (fault Budget 0) solid_step
 
--- how many digits stand in front
-abbrev pub digits_len : List Token → ℕ
-digits_len ts = prefix_len (λ (t : Token). is_digit t.sign) ts
+  -- the next token that is no Space
+  unfoldable pub next_solid : Left → Answer Taken
+  next_solid l = do
+    ahead ← solid l
+    Ok (taken ahead.units ahead.rest)
 
--- how many tokens a point in front makes with the digits after it
-abbrev pub part_len : List Token → ℕ
-part_len ts = if begins (is_char 46) ts then 1 + digits_len (drop 1 ts) else 0
+  -- what is left behind the next token, which has to be such a one
+  unfoldable pub behind_next : (Kind → Bool) → Left → Answer Left
+  behind_next wanted l = do
+    first ← next l
+    behind wanted run.end first
 
--- how many tokens in front are digits with at most one point
-abbrev pub decimal_len : List Token → ℕ
-decimal_len ts = digits_len ts + part_len (drop (digits_len ts) ts)
-
--- the byte of a digit or of the point
-abbrev pub mark_of : Sign → ℕ
-mark_of (A_char c) = if is_ascii_digit c then c else 46
-mark_of _ = 46
-
--- a number as it is written: whether `-` stands before it, its digits and point, and where the first of these stands
-pub record Numeral : Type 0 where
-  pub negative : Bool
-  pub text : List ℕ
-  pub at : ℕ
-
--- digits with at most one point, of which at least one is a digit
-unfoldable pub unsigned : Bool → ℕ → List Token → Answer (Read Numeral)
-unsigned negative end ts = if list_any (λ (t : Token). is_digit t.sign) (take (decimal_len ts) ts)
-    then Ok (record { value = record { negative = negative; text = map (λ (t : Token). mark_of t.sign) (take (decimal_len ts) ts); at = place_of end ts }; rest = drop (decimal_len ts) ts })
-    else unbuilt end (drop (decimal_len ts) ts)
-
--- behind spaces `-` or nothing, and digits with at most one point
-unfoldable pub numeral : ℕ → List Token → Answer (Read Numeral)
-numeral end ts = unsigned (begins (is_char 45) (after_spaces ts)) end (after_optional (is_char 45) (after_spaces ts))
-
--- a size with its sign
-abbrev pub signed : Bool → ℕ → ℤ
-signed true n = neg_ℤ (pos n)
-signed false n = pos n
-
--- the number in 65536ths, where it is a scaled one
-abbrev pub number_of : Numeral → Answer ℤ
-number_of n = if nat_le (decimal_value n.text) 1073741823 then Ok (signed n.negative (decimal_value n.text)) else fault TooLarge n.at
-
--- ---- coordinates
-
--- a coordinate as it is written, and where its `(` stands
-pub record Coordinate : Type 0 where
-  pub x : Numeral
-  pub y : Numeral
-  pub at : ℕ
-
--- `(`, a number, `,`, a number, `)`
-unfoldable pub coordinate : ℕ → List Token → Answer (Read Coordinate)
-coordinate end ts = do
-  inside ← expected (is_char 40) end ts
-  x ← numeral end inside
-  between ← next (is_char 44) end x.rest
-  y ← numeral end between
-  rest ← next (is_char 41) end y.rest
-  Ok (record { value = record { x = x.value; y = y.value; at = place_of end ts }; rest = rest })
-
--- one centimetre in scaled points
-abbrev pub centimetre : ℤ
-centimetre = pos 1864679
-
--- so many centimetres, where they are a scaled number
-abbrev pub centimetres : ℕ → ℤ → Answer ℤ
-centimetres at x = if is_scaled (product x centimetre) then Ok (product x centimetre) else fault TooLarge at
-
--- the point of a coordinate: both numbers first, then both lengths
-unfoldable pub point_of : Coordinate → Answer Point
-point_of c = do
-  x ← number_of c.x
-  y ← number_of c.y
-  right ← centimetres c.at x
-  up ← centimetres c.at y
-  Ok (record { x = right; y = up })
-
--- a coordinate in front, and its point
-unfoldable pub point : ℕ → List Token → Answer (Read Point)
-point end ts = do
-  c ← coordinate end ts
-  p ← point_of c.value
-  Ok (record { value = p; rest = c.rest })
+  -- what is left behind the characters of a text, with nothing between them
+  unfoldable pub behind_letters : List ℕ → Left → Answer Left
+  behind_letters [] l = Ok l
+  behind_letters (c ∷ cs) l = behind_next (is_sign c) l >>= behind_letters cs

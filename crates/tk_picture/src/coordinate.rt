@@ -1,135 +1,100 @@
-//! Numbers and coordinates.
+//! Coordinates.
 
-ghost use Rattle.std.specs.Prelude.{◌≡◌, ◌≤◌, ◌+◌, ◌*◌, ◌/◌, ℕ, Bool, true, List, map, length, IfOk, OnOk, pos, ◌≤ℤ◌, IfSome};
-ghost use Rattle.std.specs.List.{list_any};
-ghost use Rattle.std.specs.Option.{SomeIff};
-ghost use Rattle.tk_num.specs.Number.{IsScaled, is_decimal, decimal_value};
-ghost use Rattle.tk_token.specs.Token.{Token, sign_of};
+ghost use Rattle.std.specs.Prelude.{◌≡◌, ℕ, ◌+◌, ◌<◌, ◌≤◌, length, map, pos, IfOk, OnOk};
+ghost use Rattle.tk_num.specs.Number.{IsScaled};
+ghost use Rattle.tk_token.specs.declared.Code.TheVariants.{Unbuilt};
+ghost use Rattle.tk_token.specs.Answers.{or_fault};
+ghost use Rattle.tk_token.specs.Groups.{cut, depth_after, before_sign};
 ghost use Rattle.tk_token.specs.Refusals.{Gives};
-ghost use Rattle.tk_picture.specs.Form.{is_digit, part_len, decimal_len, mark_of, unsigned, numeral, signed, number_of, coordinate, centimetres, point_of};
-ghost use Rattle.tk_picture.specs.Reading.{tokens_of, Tells, numeral_of, coordinate_of};
+ghost use Rattle.tk_expand.specs.Arguments.{after_spaces};
+ghost use Rattle.tk_picture.specs.Form.{place_of};
+ghost use Rattle.tk_picture.specs.Coordinates.{closer_in, before_spaces, trimmed, begins, begins_corner, has_corner, font_units, centimetre, point_of, coordinate, point};
+ghost use Rattle.tk_picture.specs.Reading.{Tells, run_of, IsFed, left_of, taken_of};
 
-use crate::reader::{Reader, after_spaces, digits_len, is_char, is_digit};
-use std::alloc::AllocError;
+use crate::run::{Feed, Run, is_char, is_space, unbuilt_at};
+use std::alloc::{AllocError, Global};
+use tk_expand::{Input, expand_all};
+use tk_expr::{FontUnits, pair, vector};
 use tk_item::Point;
-use tk_num::{Scaled, mul, read_decimal};
-use tk_token::{Code, Fault, Kind, Refusal, Tok};
+use tk_num::Scaled;
+use tk_store::Store;
+use tk_token::{Fault, Kind, Refusal, Tok};
 
-/// A number as it is written: whether `-` stands before it, its digits with at most one point, and the place of the
-/// first of these.
-#[derive(Clone, Copy)]
-pub(crate) struct Numeral<'t> {
-    pub(crate) negative: bool,
-    pub(crate) text: &'t [Tok],
-    pub(crate) at: u32,
-}
+/// An em of a font of 10pt, in scaled points.
+const EM: i64 = 655_360;
 
-/// A coordinate as it is written, and the place of its `(`.
-#[derive(Clone, Copy)]
-pub(crate) struct Coordinate<'t> {
-    pub(crate) x: Numeral<'t>,
-    pub(crate) y: Numeral<'t>,
-    pub(crate) at: u32,
-}
+/// An ex of that font, 4.3pt.
+const EX: i64 = 281_805;
 
 /// One centimetre in scaled points.
 const CENTIMETRE: i64 = 1_864_679;
 
-impl Reader<'_> {
-    /// A coordinate in front, and the tokens after it.
-    #[tactic(auto, unfolding(crate::specs::Form::coordinate))]
-    pub(crate) fn coordinate<'t>(
+impl Run<'_> {
+    /// Reads a coordinate, whose first token was taken.
+    #[tactic(auto, unfolding(crate::specs::Form::behind, crate::specs::Coordinates::point))]
+    pub(crate) fn point(
         &self,
-        toks: &'t [Tok],
-    ) -> Result<(Coordinate<'t>, &'t [Tok]), Fault>
-        ensures tells { Tells (λ read. record { value = coordinate_of self.now.names.now read.0; rest = tokens_of self.now.names.now read.1.now }) result (coordinate self.now.end (tokens_of self.now.names.now toks.now)) }
-        ensures x { IfOk result (λ read. (names : List (List ℕ)) → is_decimal (numeral_of names read.0.x).text ≡ true) }
-        ensures y { IfOk result (λ read. (names : List (List ℕ)) → is_decimal (numeral_of names read.0.y).text ≡ true) }
-    {
-        let inside = self.expect_char(toks, '(')?;
-        let (x, behind) = self.numeral(inside)?;
-        let between = self.next_char(behind, ',')?;
-        let (y, behind) = self.numeral(between)?;
-        let rest = self.next_char(behind, ')')?;
-        let at = self.place(toks);
-        Ok((Coordinate { x, y, at }, rest))
-    }
-
-    /// A number in front, and the tokens after it.
-    #[tactic(auto, unfolding(crate::specs::Form::numeral))]
-    fn numeral<'t>(&self, toks: &'t [Tok]) -> Result<(Numeral<'t>, &'t [Tok]), Fault>
-        ensures tells { Tells (λ read. record { value = numeral_of self.now.names.now read.0; rest = tokens_of self.now.names.now read.1.now }) result (numeral self.now.end (tokens_of self.now.names.now toks.now)) }
-        ensures decimal { IfOk result (λ read. (names : List (List ℕ)) → is_decimal (numeral_of names read.0).text ≡ true) }
-    {
-        let ahead = after_spaces(toks);
-        match ahead.split_first() {
-            Some((first, tail)) if is_char(first.kind, '-') => self.unsigned(true, tail),
-            _ => self.unsigned(false, ahead),
-        }
-    }
-
-    /// Digits in front with at most one point, and the tokens after them.
-    #[tactic(auto, using(crate::proofs::Decimals::split_map, crate::proofs::Decimals::decimal_front), unfolding(crate::specs::Form::unsigned))]
-    fn unsigned<'t>(
-        &self,
-        negative: bool,
-        toks: &'t [Tok],
-    ) -> Result<(Numeral<'t>, &'t [Tok]), Fault>
-        ensures tells { Tells (λ read. record { value = numeral_of self.now.names.now read.0; rest = tokens_of self.now.names.now read.1.now }) result (unsigned negative self.now.end (tokens_of self.now.names.now toks.now)) }
-        ensures decimal { IfOk result (λ read. (names : List (List ℕ)) → is_decimal (numeral_of names read.0).text ≡ true) }
-    {
-        let (text, rest) = toks.split_at(decimal_len(toks));
-        if !has_digit(text) {
-            return Err(self.unbuilt(rest));
-        }
-        let at = self.place(toks);
-        Ok((Numeral { negative, text, at }, rest))
-    }
-
-    /// The point of a coordinate: both numbers are found first, then both lengths. `text` is room to write a number in.
-    #[tactic(auto, unfolding(crate::specs::Form::point_of))]
-    pub(crate) fn point_of(
-        &self,
-        text: &mut Vec<u8>,
-        written: &Coordinate,
+        store: &Store,
+        feed: &mut Feed,
+        first: Option<Tok>,
     ) -> Result<Point, Refusal>
-        requires x { (names : List (List ℕ)) → is_decimal (numeral_of names written.now.x).text ≡ true }
-        requires y { (names : List (List ℕ)) → is_decimal (numeral_of names written.now.y).text ≡ true }
-        ensures { Gives (λ p. p) result (point_of (coordinate_of self.now.names.now written.now)) }
+        requires fed { IsFed self.now feed.old }
+        ensures gives { Gives (λ point. record { point = point; left = left_of feed.new }) result (point (run_of self.now) store.now.top.macros (taken_of first feed.old)) }
+        ensures fed { OnOk result (IsFed self.now feed.new) }
     {
-        let x = self.number(text, &written.x)?;
-        let y = self.number(text, &written.y)?;
-        let x = centimetres(x, written.at)?;
-        let y = centimetres(y, written.at)?;
-        Ok(Point { x, y })
+        self.expect(first, '(')?;
+        self.coordinate(store, feed, self.place(first))
     }
 
-    /// The number that is written.
-    fn number(&self, text: &mut Vec<u8>, written: &Numeral) -> Result<Scaled, Refusal>
-        requires { (names : List (List ℕ)) → is_decimal (numeral_of names written.now).text ≡ true }
-        ensures { Gives (λ x. x) result (number_of (numeral_of self.now.names.now written.now)) }
+    /// Reads a coordinate, whose `(` was read at that place.
+    #[tactic(auto, unfolding(crate::specs::Coordinates::coordinate))]
+    fn coordinate(&self, store: &Store, feed: &mut Feed, at: u32) -> Result<Point, Refusal>
+        requires fed { IsFed self.now feed.old }
+        ensures gives { Gives (λ point. record { point = point; left = left_of feed.new }) result (coordinate (run_of self.now) store.now.top.macros at (left_of feed.old)) }
+        ensures fed { OnOk result (IsFed self.now feed.new) }
     {
-        write_marks(text, written.text)?;
-        match scaled_of(written.negative, text) {
-            Some(number) => Ok(number),
-            None => Err(Refusal::Fault(Fault {
-                code: Code::TooLarge,
-                at: written.at,
-            })),
+        let written = self.coordinate_text(&mut feed.input)?;
+        let text = expand_all(self.alloc, &written, store, &mut feed.units)?;
+        Ok(self.point_of(trimmed(&text), at)?)
+    }
+
+    /// Takes the text of a coordinate and its `)`.
+    fn coordinate_text(&self, input: &mut Input) -> Result<Vec<Tok>, Refusal>
+        ensures gives { Gives (λ text. cut text.items input.new.rest) result (or_fault (before_sign 41 input.old.rest) Unbuilt (place_of self.now.end (closer_in 0 input.old.rest))) }
+        ensures end { OnOk result (input.new.end ≡ input.old.end) }
+    {
+        match input.until(')')? {
+            Some(text) => Ok(text),
+            None => {
+                let closer = closer(self.alloc, input)?;
+                Err(self.unbuilt(closer).into())
+            }
         }
+    }
+
+    /// The point of a coordinate's text in numbers. A number without a unit counts centimetres.
+    #[tactic(auto, unfolding(crate::specs::Coordinates::point_of))]
+    fn point_of(&self, text: &[Tok], at: u32) -> Result<Point, Fault>
+        ensures { Tells (λ point. point) result (point_of self.now.names.now at text.now) }
+    {
+        if has_corner(text) {
+            return Err(unbuilt_at(at));
+        }
+        let Some(numbers) = pair(text, font_units(), at)? else {
+            return Err(unbuilt_at(at));
+        };
+        let centimetre = scaled(CENTIMETRE);
+        vector(numbers, centimetre, centimetre, at)
     }
 }
 
-/// So many centimetres, for a coordinate at that place.
-fn centimetres(x: Scaled, at: u32) -> Result<Scaled, Fault>
-    ensures { Tells (λ length. length) result (centimetres at x) }
+/// The units of the font.
+fn font_units() -> FontUnits
+    ensures { result ≡ font_units }
 {
-    match mul(x, scaled(CENTIMETRE)) {
-        Ok(length) => Ok(length),
-        Err(_) => Err(Fault {
-            code: Code::TooLarge,
-            at,
-        }),
+    FontUnits {
+        em: scaled(EM),
+        ex: scaled(EX),
     }
 }
 
@@ -144,73 +109,109 @@ pub(crate) fn scaled(sp: i64) -> Scaled
     }
 }
 
-/// The number that a decimal with a sign stands for, where it is a scaled one.
-#[tactic(auto, using(crate::proofs::Numbers::negated, crate::proofs::Numbers::plain))]
-fn scaled_of(negative: bool, text: &[u8]) -> Option<Scaled>
-    requires { is_decimal text.now ≡ true }
-    ensures { SomeIff result (decimal_value text.now ≤ 1073741823) (signed negative (decimal_value text.now)) }
+/// Takes the first `}` that closes no brace of the tokens before it, with these.
+fn closer(alloc: Global, input: &mut Input) -> Result<Option<Tok>, AllocError>
+    ensures { IfOk result (λ found. found ≡ closer_in 0 input.old.rest) }
 {
-    let size = size_of(text)?;
-    if negative {
-        return Scaled::new(-size);
+    let mut open = Vec::new(alloc);
+    while let Some(tok) = input.raw() {
+        match tok.kind {
+            Kind::Open => open.push(tok)?,
+            Kind::Close => {
+                if open.pop().is_none() {
+                    return Ok(Some(tok));
+                }
+            }
+            _ => {}
+        }
     }
-    Scaled::new(size)
+    Ok(None)
 }
 
-/// The number that a decimal stands for, unless its whole part is past the range.
-fn size_of(text: &[u8]) -> Option<i64>
-    requires { is_decimal text.now ≡ true }
-    ensures value { SomeIff result (decimal_value text.now / 65536 ≤ 1073741823) (pos (decimal_value text.now)) }
-    ensures within { IfSome result (λ size. size ≤ℤ pos 70368744177663) }
-{
-    let (whole, part) = read_decimal(text)?;
-    Some(65536 * whole + part)
-}
-
-/// Writes digits and a point into `text`, as bytes, in place of what stood there.
-fn write_marks(text: &mut Vec<u8>, toks: &[Tok]) -> Result<(), AllocError>
-    ensures { OnOk result ((names : List (List ℕ)) → text.new.items ≡ map (λ (t : Token). mark_of t.sign) (tokens_of names toks.now)) }
-{
-    text.clear();
-    for tok in toks {
-        text.push(mark(tok.kind))?;
-    }
-    Ok(())
-}
-
-/// How many tokens in front are digits with at most one point.
-#[tactic(auto, using(crate::proofs::Decimals::split_map))]
-fn decimal_len(toks: &[Tok]) -> usize
-    ensures value { (names : List (List ℕ)) → result ≡ decimal_len (tokens_of names toks.now) }
-    ensures within { result ≤ length toks.now }
-{
-    let whole = digits_len(toks);
-    whole + part_len(&toks[whole..])
-}
-
-/// How many tokens a point in front makes with the digits after it.
-fn part_len(toks: &[Tok]) -> usize
-    ensures value { (names : List (List ℕ)) → result ≡ part_len (tokens_of names toks.now) }
-    ensures within { result ≤ length toks.now }
-{
-    match toks.split_first() {
-        Some((first, tail)) if is_char(first.kind, '.') => 1 + digits_len(tail),
-        _ => 0,
-    }
-}
-
-fn has_digit(toks: &[Tok]) -> bool
-    ensures { (names : List (List ℕ)) → result ≡ list_any (λ (t : Token). is_digit t.sign) (tokens_of names toks.now) }
-{
-    toks.iter().any(|tok| is_digit(tok.kind))
-}
-
-/// The byte of a digit or of the point.
-fn mark(kind: Kind) -> u8
-    ensures { (names : List (List ℕ)) → result ≡ mark_of (sign_of names kind) }
+/// How many braces are open after a token, where so many are open before it.
+fn depth_after(depth: usize, kind: Kind) -> usize
+    requires { depth < 9223372036854775807 }
+    ensures value { result ≡ depth_after depth kind }
+    ensures within { result ≤ depth + 1 }
 {
     match kind {
-        Kind::Char(c) if c.is_ascii_digit() => c as u8,
-        _ => b'.',
+        Kind::Open => depth + 1,
+        Kind::Close => depth.saturating_sub(1),
+        _ => depth,
+    }
+}
+
+/// The tokens without the Spaces round them.
+fn trimmed(toks: &[Tok]) -> &[Tok]
+    ensures { result.now ≡ trimmed toks.now }
+{
+    before_spaces(after_spaces(toks))
+}
+
+/// The tokens behind the Spaces in front.
+#[tactic(auto, using(crate::proofs::Spaces::space_passed))]
+fn after_spaces(toks: &[Tok]) -> &[Tok]
+    ensures { result.now ≡ after_spaces toks.now }
+{
+    let mut rest = toks;
+    while let Some((first, tail)) = rest.split_first() {
+        if !is_space(first.kind) {
+            return rest;
+        }
+        rest = tail;
+    }
+    rest
+}
+
+/// The tokens without the Spaces at their end.
+fn before_spaces(toks: &[Tok]) -> &[Tok]
+    ensures { result.now ≡ before_spaces toks.now }
+{
+    let mut rest = toks;
+    while let Some((last, front)) = rest.split_last() {
+        if !is_space(last.kind) {
+            return rest;
+        }
+        rest = front;
+    }
+    rest
+}
+
+/// Whether `-|` or `|-` stands outside braces.
+fn has_corner(toks: &[Tok]) -> bool
+    ensures { result ≡ has_corner 0 toks.now }
+{
+    let mut depth = 0;
+    let mut rest = toks;
+    while let Some((first, tail)) = rest.split_first() {
+        if depth == 0 && begins_corner(rest) {
+            return true;
+        }
+        depth = depth_after(depth, first.kind);
+        rest = tail;
+    }
+    false
+}
+
+/// Whether `-|` or `|-` stands in front.
+fn begins_corner(toks: &[Tok]) -> bool
+    ensures { result ≡ begins_corner toks.now }
+{
+    match toks.split_first() {
+        Some((first, rest)) => {
+            (is_char(first.kind, '-') && begins(rest, '|'))
+                || (is_char(first.kind, '|') && begins(rest, '-'))
+        }
+        None => false,
+    }
+}
+
+/// Whether that character is in front.
+fn begins(toks: &[Tok], wanted: char) -> bool
+    ensures { result ≡ begins wanted toks.now }
+{
+    match toks.split_first() {
+        Some((first, _)) => is_char(first.kind, wanted),
+        None => false,
     }
 }

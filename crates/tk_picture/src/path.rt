@@ -1,137 +1,141 @@
 //! Paths.
 
-ghost use Rattle.std.specs.Prelude.{◌≡◌, ◌<◌, [], List, ℕ, length, IfOk, OnOk};
+ghost use Rattle.std.specs.Prelude.{◌≡◌, [], IfOk, OnOk};
 ghost use Rattle.tk_token.specs.Refusals.{Gives};
 ghost use Rattle.tk_svg.specs.Fitting.{BeginsWithMove};
-ghost use Rattle.tk_picture.specs.Paths.{path_end, line, cycle, operation, path_part, operations, path};
-ghost use Rattle.tk_picture.specs.Reading.{tokens_of, step_of};
+ghost use Rattle.tk_picture.specs.Paths.{going, path_end, line, cycle, operation, path_part, operations, path};
+ghost use Rattle.tk_picture.specs.Reading.{run_of, IsFed, left_of, taken_of, part_of};
 
-use crate::reader::{Reader, after_spaces, begins_char};
+use crate::run::{Feed, Run, is_there};
 use tk_item::{Seg, Segs};
+use tk_store::Store;
 use tk_token::{Refusal, Tok};
 
-/// The tokens after a part of a run: more is to come, or the end was met.
+/// What a part of a run leaves: more parts follow, or the end was met.
 #[derive(Clone, Copy)]
-pub(crate) enum Step<'t> {
-    More(&'t [Tok]),
-    Ended(&'t [Tok]),
+pub(crate) enum Step {
+    More,
+    Ended,
 }
 
-impl Reader<'_> {
-    /// Puts the pieces of a path from after `\draw` into `segs`, and gives the tokens after its `;`. `text` is room to
-    /// write a number in.
-    #[tactic(auto, unfolding(crate::specs::Form::point, crate::specs::Paths::path))]
-    pub(crate) fn path<'t>(
+impl Run<'_> {
+    /// Puts the pieces of a path into `segs`, from behind its command to its `;`.
+    #[tactic(auto, unfolding(crate::specs::Paths::path))]
+    pub(crate) fn path(
         &self,
+        store: &Store,
+        feed: &mut Feed,
         segs: &mut Segs,
-        text: &mut Vec<u8>,
-        toks: &'t [Tok],
-    ) -> Result<&'t [Tok], Refusal>
-        requires { segs.old ≡ [] }
-        ensures gives { Gives (λ rest. record { value = segs.new; rest = tokens_of self.now.names.now rest.now }) result (path self.now.end (tokens_of self.now.names.now toks.now)) }
+    ) -> Result<(), Refusal>
+        requires fed { IsFed self.now feed.old }
+        requires none { segs.old ≡ [] }
+        ensures gives { Gives (λ _. going segs.new (left_of feed.new)) result (path (run_of self.now) store.now.top.macros (left_of feed.old)) }
+        ensures fed { OnOk result (IsFed self.now feed.new) }
         ensures begins { OnOk result (BeginsWithMove segs.new) }
     {
-        let (start, rest) = self.coordinate(after_spaces(toks))?;
-        let start = self.point_of(text, &start)?;
+        let first = self.next_solid(store, feed)?;
+        let start = self.point(store, feed, first)?;
         segs.push(Seg::Move(start))?;
-        self.operations(segs, text, rest)
+        self.operations(store, feed, segs)
     }
 
     /// Puts the pieces of a path to its `;` behind those that it has.
-    fn operations<'t>(
-        &self,
-        segs: &mut Segs,
-        text: &mut Vec<u8>,
-        toks: &'t [Tok],
-    ) -> Result<&'t [Tok], Refusal>
-        requires { BeginsWithMove segs.old }
-        ensures gives { Gives (λ rest. record { value = segs.new; rest = tokens_of self.now.names.now rest.now }) result (operations self.now.end (record { segs = segs.old; rest = tokens_of self.now.names.now toks.now })) }
+    fn operations(&self, store: &Store, feed: &mut Feed, segs: &mut Segs) -> Result<(), Refusal>
+        requires fed { IsFed self.now feed.old }
+        requires begins { BeginsWithMove segs.old }
+        ensures gives { Gives (λ _. going segs.new (left_of feed.new)) result (operations (run_of self.now) store.now.top.macros (going segs.old (left_of feed.old))) }
+        ensures fed { OnOk result (IsFed self.now feed.new) }
         ensures begins { OnOk result (BeginsWithMove segs.new) }
     {
-        let mut rest = toks;
         loop {
-            match self.path_part(segs, text, rest)? {
-                Step::More(behind) => rest = behind,
-                Step::Ended(behind) => return Ok(behind),
+            match self.path_part(store, feed, segs)? {
+                Step::More => {}
+                Step::Ended => return Ok(()),
             }
         }
     }
 
     /// Reads `;`, or one operation.
     #[tactic(auto, unfolding(crate::specs::Paths::path_part))]
-    fn path_part<'t>(
-        &self,
-        segs: &mut Segs,
-        text: &mut Vec<u8>,
-        toks: &'t [Tok],
-    ) -> Result<Step<'t>, Refusal>
-        requires { BeginsWithMove segs.old }
-        ensures gives { Gives (step_of self.now.names.now segs.new) result (path_part self.now.end (record { segs = segs.old; rest = tokens_of self.now.names.now toks.now })) }
+    fn path_part(&self, store: &Store, feed: &mut Feed, segs: &mut Segs) -> Result<Step, Refusal>
+        requires fed { IsFed self.now feed.old }
+        requires begins { BeginsWithMove segs.old }
+        ensures gives { Gives (part_of segs.new feed.new) result (path_part (run_of self.now) store.now.top.macros (going segs.old (left_of feed.old))) }
+        ensures fed { OnOk result (IsFed self.now feed.new) }
         ensures begins { OnOk result (BeginsWithMove segs.new) }
     {
-        let ahead = after_spaces(toks);
-        if begins_char(ahead, ';') {
-            return self.path_end(segs, ahead);
+        let first = self.next_solid(store, feed)?;
+        if is_there(first, ';') {
+            return self.path_end(feed, segs, first);
         }
-        self.operation(segs, text, ahead)
+        self.operation(store, feed, segs, first)
     }
 
-    /// Reads the `;` of a path.
-    #[tactic(auto, unfolding(crate::specs::Paths::path_end))]
-    fn path_end<'t>(&self, segs: &Segs, toks: &'t [Tok]) -> Result<Step<'t>, Refusal>
-        ensures { Gives (step_of self.now.names.now segs.now) result (path_end self.now.end segs.now (tokens_of self.now.names.now toks.now)) }
+    /// Reads the `;` of a path, for which a token was taken.
+    #[tactic(auto, unfolding(crate::specs::Form::behind, crate::specs::Paths::path_end))]
+    fn path_end(&self, feed: &Feed, segs: &Segs, first: Option<Tok>) -> Result<Step, Refusal>
+        ensures { Gives (part_of segs.now feed.now) result (path_end self.now.end segs.now (taken_of first feed.now)) }
     {
-        let rest = self.expect_char(toks, ';')?;
-        Ok(Step::Ended(rest))
+        self.expect(first, ';')?;
+        Ok(Step::Ended)
     }
 
-    /// Reads `--` and its target.
-    #[tactic(auto, unfolding(crate::specs::Paths::operation))]
-    fn operation<'t>(
+    /// Reads `--` and its target, where the first token was taken.
+    #[tactic(auto, unfolding(crate::specs::Form::behind, crate::specs::Paths::operation))]
+    fn operation(
         &self,
+        store: &Store,
+        feed: &mut Feed,
         segs: &mut Segs,
-        text: &mut Vec<u8>,
-        toks: &'t [Tok],
-    ) -> Result<Step<'t>, Refusal>
-        requires { BeginsWithMove segs.old }
-        ensures gives { Gives (step_of self.now.names.now segs.new) result (operation self.now.end segs.old (tokens_of self.now.names.now toks.now)) }
+        first: Option<Tok>,
+    ) -> Result<Step, Refusal>
+        requires fed { IsFed self.now feed.old }
+        requires begins { BeginsWithMove segs.old }
+        ensures gives { Gives (part_of segs.new feed.new) result (operation (run_of self.now) store.now.top.macros segs.old (taken_of first feed.old)) }
+        ensures fed { OnOk result (IsFed self.now feed.new) }
         ensures begins { OnOk result (BeginsWithMove segs.new) }
     {
-        let behind = self.after_text(toks, b"--")?;
-        let target = after_spaces(behind);
-        if begins_char(target, 'c') {
-            return self.cycle(segs, target);
+        self.expect(first, '-')?;
+        self.expect_next(store, feed, '-')?;
+        let target = self.next_solid(store, feed)?;
+        if is_there(target, 'c') {
+            return self.cycle(store, feed, segs);
         }
-        self.line(segs, text, target)
+        self.line(store, feed, segs, target)
     }
 
-    /// Reads `cycle`, after which the path has to end.
+    /// Reads `cycle`, whose first letter was taken. The path has to end behind it.
     #[tactic(auto, unfolding(crate::specs::Paths::cycle))]
-    fn cycle<'t>(&self, segs: &mut Segs, toks: &'t [Tok]) -> Result<Step<'t>, Refusal>
-        requires { BeginsWithMove segs.old }
-        ensures gives { Gives (step_of self.now.names.now segs.new) result (cycle self.now.end segs.old (tokens_of self.now.names.now toks.now)) }
+    fn cycle(&self, store: &Store, feed: &mut Feed, segs: &mut Segs) -> Result<Step, Refusal>
+        requires fed { IsFed self.now feed.old }
+        requires begins { BeginsWithMove segs.old }
+        ensures gives { Gives (part_of segs.new feed.new) result (cycle (run_of self.now) store.now.top.macros segs.old (left_of feed.old)) }
+        ensures fed { OnOk result (IsFed self.now feed.new) }
         ensures begins { OnOk result (BeginsWithMove segs.new) }
     {
-        let behind = self.after_text(toks, b"cycle")?;
+        self.expect_letters(store, feed, b"ycle")?;
+        let last = self.next_solid(store, feed)?;
         segs.push(Seg::Close)?;
-        self.path_end(segs, after_spaces(behind))
+        self.path_end(feed, segs, last)
     }
 
-    /// Reads a line to a coordinate.
-    #[tactic(auto, unfolding(crate::specs::Form::point, crate::specs::Paths::line))]
-    fn line<'t>(
+    /// Reads a line to a coordinate, whose first token was taken.
+    #[tactic(auto, unfolding(crate::specs::Paths::line))]
+    fn line(
         &self,
+        store: &Store,
+        feed: &mut Feed,
         segs: &mut Segs,
-        text: &mut Vec<u8>,
-        toks: &'t [Tok],
-    ) -> Result<Step<'t>, Refusal>
-        requires { BeginsWithMove segs.old }
-        ensures gives { Gives (step_of self.now.names.now segs.new) result (line self.now.end segs.old (tokens_of self.now.names.now toks.now)) }
+        first: Option<Tok>,
+    ) -> Result<Step, Refusal>
+        requires fed { IsFed self.now feed.old }
+        requires begins { BeginsWithMove segs.old }
+        ensures gives { Gives (part_of segs.new feed.new) result (line (run_of self.now) store.now.top.macros segs.old (taken_of first feed.old)) }
+        ensures fed { OnOk result (IsFed self.now feed.new) }
         ensures begins { OnOk result (BeginsWithMove segs.new) }
     {
-        let (end, rest) = self.coordinate(toks)?;
-        let end = self.point_of(text, &end)?;
+        let end = self.point(store, feed, first)?;
         segs.push(Seg::Line(end))?;
-        Ok(Step::More(rest))
+        Ok(Step::More)
     }
 }

@@ -1,235 +1,141 @@
 //! Pictures and documents.
 
-ghost use Rattle.std.specs.Prelude.{◌≡◌, ◌≤◌, ◌+◌, ◌*◌, [], None, Ok, Err, length, take, IfOk, IfErr, OnOk, IfSome, IsUtf8, codes, unwrap_or};
-ghost use Rattle.std.specs.List.{AllByRecursion};
+ghost use Rattle.std.specs.Prelude.{◌≡◌, ◌≤◌, ◌+◌, ◌*◌, List, Ok, Err, length, map, take, IfOk, IfErr, OnOk, IfSome, IsUtf8, codes, unwrap_or};
+ghost use Rattle.std.specs.List.{All, AllByRecursion};
 ghost use Rattle.tk_item.specs.Frame.{IsProper};
-ghost use Rattle.tk_svg.specs.Fitting.{Fits, FitsItem, IsPath, BeginsWithMove};
+ghost use Rattle.tk_svg.specs.Fitting.{Fits, FitsItem, IsPath};
 ghost use Rattle.tk_token.specs.Refusals.{Gives, OnFault};
-ghost use Rattle.tk_item.specs.declared.Drawing.{Drawing as ADrawing};
+ghost use Rattle.tk_expand.specs.Arguments.{after_spaces};
+ghost use Rattle.tk_picture.specs.declared.Compiled.{Compiled as ACompiled};
 ghost use Rattle.tk_picture.specs.Outcome.{IsOutcome};
-ghost use Rattle.tk_picture.specs.Paths.{first_pen, with_path, draw, picture_end, picture_part, paths, no_frame, drawing_of, nothing_after, document};
-ghost use Rattle.tk_picture.specs.Reading.{tokens_of, Tells, drawn_of, picture_step};
+ghost use Rattle.tk_picture.specs.Commands.{here, first_env, first_state, no_frame, compiled, nothing_after, document};
+ghost use Rattle.tk_picture.specs.Reading.{Tells, run_of, here_of, state_of, IsSound};
 
+use crate::Compiled;
+use crate::commands::{Opener, Picture};
 use crate::coordinate::scaled;
-use crate::path::Step;
-use crate::reader::{Reader, after_spaces};
+use crate::run::{Feed, Run};
+use crate::source::solid;
 use std::alloc::{AllocError, Global};
-use tk_item::{
-    Cap, Dashes, Drawing, Frame, Item, Items, Join, Rgb, Seg, Segs, Stroke, Text, widen,
-};
-use tk_token::{Fault, Refusal, Tok, lex};
-
-/// The width of the pen that a picture begins with, 0.4pt.
-const LINE_WIDTH: i64 = 26_214;
-
-/// Half that width, rounded up.
-const HALF_WIDTH: i64 = (LINE_WIDTH + 1) / 2;
-
-/// A miter limit of ten.
-const MITER_LIMIT: i64 = 10 * 65_536;
+use tk_expand::{Input, Units};
+use tk_item::{Drawing, Frame, Items, Text};
+use tk_store::{Body, Store};
+use tk_token::{Fault, Lexed, Refusal, lex};
 
 /// A font size of 10pt.
 const FONT_SIZE: i64 = 10 * 65_536;
 
-/// The drawing of a source: `\begin{tikzpicture}`, paths of straight lines between coordinates, and
-/// `\end{tikzpicture}`. It takes time and memory linear in the source's length.
+/// The drawing of a source, and the units that it costs: `\begin{tikzpicture}`, commands and `\end{tikzpicture}`. The
+/// commands are paths of straight lines between coordinates, the definitions of macros, and groups. It takes time and
+/// memory linear in the source's length and the units.
 ///
-/// A source that stands for no drawing is refused at its first fault: first those that `lex` asks of the whole source.
-/// `Unbuilt` comes at the first token with which no source of the form goes on, or at the source's length. `TooLarge`
-/// comes at the first digit or point of a number, or at the `(` of a coordinate whose lengths in centimetres are past
-/// the range of a `Scaled`.
-pub fn compile(alloc: Global, source: &[u8]) -> Result<Drawing, Refusal>
-    requires { length source.now ≤ 16777216 }
-    ensures drawing { IfOk result (λ d. IsOutcome source.now (Ok d)) }
-    ensures fault { IfErr result (λ e. OnFault e (λ f. IsOutcome source.now (Err f))) }
+/// In the picture macro calls are expanded, and paid for out of the budget: a call costs one unit more than the tokens of
+/// its text. A coordinate is `(x,y)`, `(angle:radius)` or `(angle:radius and radius)` of expressions; it ends, as it is
+/// written, at the first `)` outside braces, and is then expanded. A number without a unit counts centimetres.
+///
+/// A source that stands for no drawing is refused at its first fault: first those of `lex`, then those of running it from
+/// the front on. `MacroSyntax` comes at the first token that doesn't fit a definition, or at the source's length.
+/// `MacroArg` comes at the word of a call that lacks an argument, and `Budget` at that of a call that can't be paid.
+/// `Levels` comes at the `{` or the command that would open a 129th level. `Unbuilt` comes at the first token with which
+/// no source of the form goes on, at the `(` of a coordinate of another form, or at the source's length. `Coordinate`
+/// comes at the `(` of a coordinate with a second `,`. `Expression`, `TooDeep`, `TooLarge`, `DivZero` and `Domain` come in
+/// an expression; `Expression` also at the `(` of a coordinate that lacks one, and `TooLarge` at the `(` of one whose
+/// lengths in centimetres are past the range of a `Scaled`.
+pub fn compile(alloc: Global, source: &[u8], budget: u64) -> Result<Compiled, Refusal>
+    requires short { length source.now ≤ 16777216 }
+    requires few { budget ≤ 20000000 }
+    ensures compiled { IfOk result (λ c. IsOutcome budget source.now (Ok c)) }
+    ensures fault { IfErr result (λ e. OnFault e (λ f. IsOutcome budget source.now (Err f))) }
 
     // The drawing can be written as a document, and a fault has a line and a column.
-    ensures fits { IfOk result Fits }
-    ensures paths { IfOk result (λ d. AllByRecursion IsPath d.items) }
+    ensures fits { IfOk result (λ c. Fits c.drawing) }
+    ensures paths { IfOk result (λ c. AllByRecursion IsPath c.drawing.items) }
     ensures place { IfErr result (λ e. OnFault e (λ f. f.at ≤ length source.now)) }
     ensures text { IfErr result (λ e. OnFault e (λ f. IsUtf8 (take f.at source.now))) }
 {
-    let lexed = lex(alloc, source)?;
-    let reader = Reader {
-        names: &lexed.names,
+    let Lexed { toks, names } = lex(alloc, source)?;
+    let run = Run {
+        alloc,
+        names: &names,
         end: source.len() as u32,
+        budget,
     };
-    reader.document(alloc, &lexed.toks)
+    run.document(Body::from_vec(toks)?)
 }
 
-/// What was drawn so far: the items, and the frame round them.
-#[derive(Drop)]
-struct Drawn {
-    items: Items,
-    frame: Option<Frame>,
-}
-
-impl Reader<'_> {
+impl Run<'_> {
     /// The drawing of a source's tokens.
-    #[tactic(auto, unfolding(crate::specs::Form::next, crate::specs::Paths::document))]
-    fn document(&self, alloc: Global, toks: &[Tok]) -> Result<Drawing, Refusal>
-        ensures gives { Gives (λ d. d) result (document self.now.end (tokens_of self.now.names.now toks.now)) }
-        ensures fits { IfOk result Fits }
-        ensures paths { IfOk result (λ d. AllByRecursion IsPath d.items) }
+    #[tactic(auto, unfolding(crate::specs::Commands::document))]
+    fn document(&self, toks: Body) -> Result<Compiled, Refusal>
+        ensures gives { Gives (λ c. c) result (document (run_of self.now) toks) }
+        ensures fits { IfOk result (λ c. Fits c.drawing) }
+        ensures paths { IfOk result (λ c. AllByRecursion IsPath c.drawing.items) }
     {
-        let behind = self.expect_word(after_spaces(toks), "begin")?;
-        let inside = self.after_name(behind)?;
-        let mut drawn = Drawn {
-            items: Items::new(alloc),
+        let mut input = Input::new(self.alloc, toks, self.end)?;
+        self.expect_word(&mut input, "begin")?;
+        self.expect_name(&mut input)?;
+        let mut picture = self.begun(input)?;
+        self.commands(&mut picture, Opener::Picture)?;
+        self.expect_nothing(&mut picture.feed.input)?;
+        Ok(compiled(self.alloc, picture)?)
+    }
+
+    /// A picture in which nothing is drawn and only its own level is open.
+    fn begun(&self, input: Input) -> Result<Picture, AllocError>
+        requires { input.end ≡ self.now.end }
+        ensures place { IfOk result (λ picture. here_of picture ≡ here first_env first_state input.rest) }
+        ensures sound { IfOk result (λ picture. IsSound self.now picture) }
+    {
+        let mut store = Store::new(self.alloc)?;
+        store.open()?;
+        Ok(Picture {
+            store,
+            feed: Feed {
+                input,
+                units: Units {
+                    used: 0,
+                    budget: self.budget,
+                },
+            },
+            items: Items::new(self.alloc),
             frame: None,
-        };
-        let rest = self.paths(alloc, &mut drawn, inside)?;
-        self.nothing_after(after_spaces(rest))?;
-        Ok(drawing(alloc, drawn)?)
+        })
     }
 
-    /// Asks that no tokens are left.
-    fn nothing_after(&self, toks: &[Tok]) -> Result<(), Fault>
-        ensures { (d : ADrawing) → Tells (λ _. d) result (nothing_after self.now.end d (tokens_of self.now.names.now toks.now)) }
+    /// Asks that only Spaces are left.
+    fn expect_nothing(&self, input: &mut Input) -> Result<(), Fault>
+        ensures { (c : ACompiled) → Tells (λ _. c) result (nothing_after self.now.end c (after_spaces input.old.rest)) }
     {
-        if toks.is_empty() {
-            Ok(())
-        } else {
-            Err(self.unbuilt(toks))
-        }
-    }
-
-    /// Draws the paths up to `\end{tikzpicture}`, and gives the tokens after it.
-    fn paths<'t>(
-        &self,
-        alloc: Global,
-        drawn: &mut Drawn,
-        toks: &'t [Tok],
-    ) -> Result<&'t [Tok], Refusal>
-        requires items { AllByRecursion FitsItem drawn.old.items }
-        requires paths { AllByRecursion IsPath drawn.old.items }
-        requires proper { IfSome drawn.old.frame IsProper }
-        ensures gives { Gives (λ rest. record { value = drawn_of drawn.new; rest = tokens_of self.now.names.now rest.now }) result (paths self.now.end (record { drawn = drawn_of drawn.old; rest = tokens_of self.now.names.now toks.now })) }
-        ensures items { OnOk result (AllByRecursion FitsItem drawn.new.items) }
-        ensures paths { OnOk result (AllByRecursion IsPath drawn.new.items) }
-        ensures proper { OnOk result (IfSome drawn.new.frame IsProper) }
-    {
-        let mut text = Vec::new(alloc);
-        let mut rest = toks;
-        loop {
-            match self.picture_part(alloc, drawn, &mut text, rest)? {
-                Step::More(behind) => rest = behind,
-                Step::Ended(behind) => return Ok(behind),
-            }
-        }
-    }
-
-    /// Reads `\end{tikzpicture}`, or draws one path.
-    #[tactic(auto, unfolding(crate::specs::Paths::picture_part))]
-    fn picture_part<'t>(
-        &self,
-        alloc: Global,
-        drawn: &mut Drawn,
-        text: &mut Vec<u8>,
-        toks: &'t [Tok],
-    ) -> Result<Step<'t>, Refusal>
-        requires items { AllByRecursion FitsItem drawn.old.items }
-        requires paths { AllByRecursion IsPath drawn.old.items }
-        requires proper { IfSome drawn.old.frame IsProper }
-        ensures gives { Gives (picture_step self.now.names.now drawn.new) result (picture_part self.now.end (record { drawn = drawn_of drawn.old; rest = tokens_of self.now.names.now toks.now })) }
-        ensures items { OnOk result (AllByRecursion FitsItem drawn.new.items) }
-        ensures paths { OnOk result (AllByRecursion IsPath drawn.new.items) }
-        ensures proper { OnOk result (IfSome drawn.new.frame IsProper) }
-    {
-        let ahead = after_spaces(toks);
-        if self.begins_word(ahead, "end") {
-            return self.picture_end(drawn, ahead);
-        }
-        self.draw(alloc, drawn, text, ahead)
-    }
-
-    /// Reads `\end{tikzpicture}`.
-    #[tactic(auto, unfolding(crate::specs::Paths::picture_end))]
-    fn picture_end<'t>(&self, drawn: &Drawn, toks: &'t [Tok]) -> Result<Step<'t>, Refusal>
-        ensures { Gives (picture_step self.now.names.now drawn.now) result (picture_end self.now.end (drawn_of drawn.now) (tokens_of self.now.names.now toks.now)) }
-    {
-        let behind = self.expect_word(toks, "end")?;
-        let rest = self.after_name(behind)?;
-        Ok(Step::Ended(rest))
-    }
-
-    /// Draws `\draw` with its path.
-    #[tactic(auto, unfolding(crate::specs::Paths::draw))]
-    fn draw<'t>(
-        &self,
-        alloc: Global,
-        drawn: &mut Drawn,
-        text: &mut Vec<u8>,
-        toks: &'t [Tok],
-    ) -> Result<Step<'t>, Refusal>
-        requires items { AllByRecursion FitsItem drawn.old.items }
-        requires paths { AllByRecursion IsPath drawn.old.items }
-        requires proper { IfSome drawn.old.frame IsProper }
-        ensures gives { Gives (picture_step self.now.names.now drawn.new) result (draw self.now.end (drawn_of drawn.old) (tokens_of self.now.names.now toks.now)) }
-        ensures items { OnOk result (AllByRecursion FitsItem drawn.new.items) }
-        ensures paths { OnOk result (AllByRecursion IsPath drawn.new.items) }
-        ensures proper { OnOk result (IfSome drawn.new.frame IsProper) }
-    {
-        let behind = self.expect_word(toks, "draw")?;
-        let mut segs = Segs::new(alloc);
-        let rest = self.path(&mut segs, text, behind)?;
-        drawn.add(segs)?;
-        Ok(Step::More(rest))
+        let first = solid(input);
+        self.require(first, first.is_none())
     }
 }
 
-impl Drawn {
-    /// Draws a path, unless it is a Move alone.
-    fn add(&mut self, segs: Segs) -> Result<(), AllocError>
-        requires begins { BeginsWithMove segs }
-        requires items { AllByRecursion FitsItem self.old.items }
-        requires paths { AllByRecursion IsPath self.old.items }
-        requires proper { IfSome self.old.frame IsProper }
-        ensures drawn { OnOk result (drawn_of self.new ≡ with_path (drawn_of self.old) segs) }
-        ensures items { OnOk result (AllByRecursion FitsItem self.new.items) }
-        ensures paths { OnOk result (AllByRecursion IsPath self.new.items) }
-        ensures proper { OnOk result (IfSome self.new.frame IsProper) }
-    {
-        if let [Seg::Move(_)] = segs.as_slice() {
-            return Ok(());
-        }
-        self.frame = widen(self.frame, segs.as_slice(), HALF_WIDTH);
-        self.items.push(Item::Path(segs, None, Some(first_pen())))
-    }
-}
-
-/// The pen that a picture begins with.
-fn first_pen() -> Stroke
-    ensures { result ≡ first_pen }
-{
-    Stroke {
-        rgb: Rgb { r: 0, g: 0, b: 0 },
-        width: scaled(LINE_WIDTH),
-        cap: Cap::Butt,
-        join: Join::Miter,
-        miter: scaled(MITER_LIMIT),
-        dash: Dashes::new(),
-        phase: scaled(0),
-    }
-}
-
-/// The drawing of what was drawn.
+/// What a picture has drawn and paid.
 #[tactic(auto, using(crate::proofs::Fitting::fits))]
-fn drawing(alloc: Global, drawn: Drawn) -> Result<Drawing, AllocError>
-    requires items { AllByRecursion FitsItem drawn.items }
-    requires paths { AllByRecursion IsPath drawn.items }
-    requires proper { IfSome drawn.frame IsProper }
-    ensures drawing { IfOk result (λ d. d ≡ drawing_of (drawn_of drawn)) }
-    ensures fits { IfOk result Fits }
-    ensures paths { IfOk result (λ d. AllByRecursion IsPath d.items) }
+fn compiled(alloc: Global, picture: Picture) -> Result<Compiled, AllocError>
+    requires items { AllByRecursion FitsItem picture.items }
+    requires paths { AllByRecursion IsPath picture.items }
+    requires proper { IfSome picture.frame IsProper }
+    ensures compiled { IfOk result (λ c. c ≡ compiled (state_of picture)) }
+    ensures fits { IfOk result (λ c. Fits c.drawing) }
+    ensures paths { IfOk result (λ c. AllByRecursion IsPath c.drawing.items) }
 {
     let family = family(alloc)?;
-    let Drawn { items, frame } = drawn;
-    Ok(Drawing {
-        frame: whole_frame(frame),
-        family,
-        size: scaled(FONT_SIZE),
+    let Picture {
+        feed,
         items,
+        frame,
+        ..
+    } = picture;
+    Ok(Compiled {
+        drawing: Drawing {
+            frame: whole_frame(frame),
+            family,
+            size: scaled(FONT_SIZE),
+            items,
+        },
+        units: feed.units.used,
     })
 }
 

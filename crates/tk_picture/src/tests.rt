@@ -1,5 +1,5 @@
-//! Sources with their pieces, frames and faults, worked out by hand: one centimetre is 1,864,679 scaled points, and a
-//! frame lies 13,107 round its points.
+//! Sources with their pieces, frames and faults, and coordinates with their points and faults, worked out by hand: one
+//! centimetre is 1,864,679 scaled points, and a frame lies 13,107 round its points.
 
 use super::*;
 use std::alloc::{AllocError, Global};
@@ -35,14 +35,15 @@ fn piece(alloc: Global, seg: Seg) -> Result<String, AllocError> {
     }
 }
 
-fn outcome(rt: &impl Abort, alloc: Global, source: &str) -> Result<Drawing, Refusal> {
+fn outcome(rt: &impl Abort, alloc: Global, source: &str, budget: u64) -> Result<Compiled, Refusal> {
     let bytes = source.as_bytes();
     assert!(rt; bytes.len() <= 1_000);
-    compile(alloc, bytes)
+    assert!(rt; budget <= 1_000);
+    compile(alloc, bytes, budget)
 }
 
-fn fault(rt: &impl Abort, alloc: Global, source: &str) -> Option<Fault> {
-    match outcome(rt, alloc, source) {
+fn fault(rt: &impl Abort, alloc: Global, source: &str, budget: u64) -> Option<Fault> {
+    match outcome(rt, alloc, source, budget) {
         Ok(_) => None,
         Err(Refusal::OutOfMemory) => None,
         Err(Refusal::Fault(fault)) => Some(fault),
@@ -82,12 +83,6 @@ fn pictures_have_their_pieces_and_frames(rt: HostRuntime) -> Result<(), Fail> {
             [-13_107, -13_107, 13_135, 13_107],
             "path 26214: M 0 0 L 28 0; ",
         ),
-        // A comment goes to its line end, and blank lines are gaps.
-        (
-            "\\draw % a };\n\n (0,0) --% b\n  (1,0);%;",
-            [-13_107, -13_107, 1_877_786, 13_107],
-            "path 26214: M 0 0 L 1864679 0; ",
-        ),
         // The frame has the points of what is drawn alone.
         (
             r"\draw (5,5);\draw (0,0) -- (0,-1) -- (0,0);",
@@ -97,8 +92,8 @@ fn pictures_have_their_pieces_and_frames(rt: HostRuntime) -> Result<(), Fail> {
     ];
     for (line, frame, paths) in rows {
         let source = format!(in alloc; "\\begin{{tikzpicture}}\n{line}\n\\end{{tikzpicture}}\n")?;
-        let drawing = match outcome(&rt, alloc, source.as_str()) {
-            Ok(drawing) => drawing,
+        let drawing = match outcome(&rt, alloc, source.as_str(), 0) {
+            Ok(compiled) => compiled.drawing,
             Err(_) => return Err("a drawing was refused".into()),
         };
         let Frame {
@@ -117,42 +112,213 @@ fn pictures_have_their_pieces_and_frames(rt: HostRuntime) -> Result<(), Fail> {
 
 #[test]
 fn lines_have_their_first_fault(rt: HostRuntime) -> Result<(), Fail> {
-    // The second line begins at byte 20, so that column c is byte 19 + c.
+    // The second line begins at byte 20, so that column c is byte 19 + c, and the source's length is that of the line
+    // and 39.
     let rows = [
         (r"\draw (600,0) -- (0,0);", Code::TooLarge, 26),
         (r"\draw (0,600) -- (0,0);", Code::TooLarge, 26),
         (r"\draw (20000,0) -- (0,0);", Code::TooLarge, 27),
         (r"\draw (600,20000) -- (0,0);", Code::TooLarge, 31),
         (r"\draw (0,-20000) -| (0,0);", Code::TooLarge, 30),
-        (r"\draw (600,0 -- (0,0);", Code::Unbuilt, 33),
+        (r"\draw (0,0) -- (1/0,1);", Code::DivZero, 37),
         (r"\draw (0,0) -| (1,1);", Code::Unbuilt, 33),
-        // The line end goes with the comment, so that `\end` follows, which is the first token of line 3.
-        (r"\draw (0,0) % (1,1);", Code::Unbuilt, 41),
-        (r"\draw (600,0) % (1,1);", Code::TooLarge, 26),
-        (r"\draw (0,0) -- (1,é);", Code::Unbuilt, 38),
-        (r"\draw (0,0) -- (1,\,);", Code::Unbuilt, 38),
-        (r"\draw #", Code::Unbuilt, 26),
         (r"\draw (0,0) - - (1,0);", Code::Unbuilt, 33),
         (r"\draw (0,0) -- cy cle;", Code::Unbuilt, 37),
         (r"\draw (0,0) -- cycle -- (1,0);", Code::Unbuilt, 41),
-        (r"\draw ( - 1,0);", Code::Unbuilt, 29),
-        (r"\draw (1.2.3,0);", Code::Unbuilt, 30),
-        (r"\draw (.,0);", Code::Unbuilt, 28),
-        (r"\draw (0 0,1);", Code::Unbuilt, 29),
         (r"\draw (0,0) (1,0);", Code::Unbuilt, 32),
         (r"\draw;", Code::Unbuilt, 25),
+        (r"\draw 1,0);", Code::Unbuilt, 26),
         (r"\draw (0,0)", Code::Unbuilt, 32),
+        (r"\draw (1/0,0) {}", Code::DivZero, 28),
         (r"\fill (0,0);", Code::Unbuilt, 20),
-        (r"{}", Code::Unbuilt, 20),
+        // The form of the whole is asked as it is met: the first coordinate comes before the missing `)` of the second.
+        (r"\draw (600,0) -- (0,0;", Code::TooLarge, 26),
+        (r"\draw (0,0) -- (1/0,0;", Code::Unbuilt, 61),
     ];
     for (line, code, at) in rows {
         let source = format!(in rt.alloc();
             "\\begin{{tikzpicture}}\n{line}\n\\end{{tikzpicture}}\n"
         )?;
         assert_eq!(rt;
-            fault(&rt, rt.alloc(), source.as_str()),
+            fault(&rt, rt.alloc(), source.as_str(), 0),
             Some(Fault { code, at }),
             "{line}"
+        );
+    }
+    Ok(())
+}
+
+/// Coordinates with their points. A number without a unit counts centimetres, an em is 655,360 scaled points and an ex
+/// is 281,805.
+const POINTS: [(&str, i64, i64); 40] = [
+    ("(1,2)", 1_864_679, 3_729_358),
+    ("( 1 , 2 )", 1_864_679, 3_729_358),
+    ("(\n1,\n 2\n)", 1_864_679, 3_729_358),
+    ("(-1,+2)", -1_864_679, 3_729_358),
+    ("( - 1,0)", -1_864_679, 0),
+    ("(--1,-+-2)", 1_864_679, 3_729_358),
+    // 2cm are 56 points and 230/254 of a point, and so one scaled point more than twice 1cm.
+    ("(1cm,2cm)", 1_864_679, 3_729_359),
+    ("(2,2cm)", 3_729_358, 3_729_359),
+    ("(2cm,2)", 3_729_359, 3_729_358),
+    ("(1 cm,2 cm)", 1_864_679, 3_729_359),
+    ("(1em,1ex)", 655_360, 281_805),
+    // Half an ex is 140,902.5 scaled points, which are cut.
+    ("(2em,0.5ex)", 1_310_720, 140_902),
+    ("(1sp,3.9sp)", 1, 3),
+    ("(-2sp,1pt)", -2, 65_536),
+    // Quotients in 65536ths of a point: 4736286.72 for an inch, 65781.76 for a big point, 70124.08 for a Didot point.
+    ("(1in,1bp)", 4_736_286, 65_781),
+    ("(1mm,1pc)", 186_467, 786_432),
+    ("(1dd,1cc)", 70_124, 841_489),
+    ("(1024sp,3072sp)", 1_024, 3_072),
+    ("(16383.99998pt,0pt)", 1_073_741_823, 0),
+    // A unit anywhere makes a length.
+    ("(1pt+1,0)", 131_072, 0),
+    ("(2*1cm,0)", 3_729_358, 0),
+    ("({1+2*3},{sqrt(2)*1pt})", 13_052_753, 92_681),
+    // Braces: one pair round a part is left out, and those inside a part are parentheses.
+    ("({1},{2})", 1_864_679, 3_729_358),
+    ("( {1} , {2} )", 1_864_679, 3_729_358),
+    ("({(1)},{ 2 })", 1_864_679, 3_729_358),
+    ("({1}+{1},{2}*1)", 3_729_358, 3_729_358),
+    ("({max(1,2)},0)", 3_729_358, 0),
+    ("({0?1:2},3)", 3_729_358, 5_594_037),
+    // An angle and a radius: the sine of 30 is a half, that of 60 is 56756 65536ths.
+    ("(0:1)", 1_864_679, 0),
+    ("(90:1)", 0, 1_864_679),
+    ("(30:1)", 1_614_863, 932_339),
+    ("(60:2)", 1_864_679, 3_229_727),
+    ("(180:1)", -1_864_679, 0),
+    ("(-90:1)", 0, -1_864_679),
+    ("( 90 : 1 )", 0, 1_864_679),
+    ("(60+30:{1})", 0, 1_864_679),
+    // Two radii: the first is along x, and the second along y.
+    ("(90:1 and 2)", 0, 3_729_358),
+    ("(90:1cm and 2cm)", 0, 3_729_359),
+    ("(0:1and2)", 1_864_679, 0),
+    ("(45:2pt and 3pt)", 92_682, 139_023),
+];
+
+#[test]
+fn coordinates_have_their_points(rt: HostRuntime) -> Result<(), Fail> {
+    let alloc = rt.alloc();
+    for (coordinate, x, y) in POINTS {
+        let source = format!(in alloc;
+            "\\begin{{tikzpicture}}\\draw{coordinate}--cycle;\\end{{tikzpicture}}"
+        )?;
+        let drawing = match outcome(&rt, alloc, source.as_str(), 0) {
+            Ok(compiled) => compiled.drawing,
+            Err(_) => return Err("a coordinate was refused".into()),
+        };
+        let path = format!(in alloc; "path 26214: M {x} {y} Z; ")?;
+        assert_eq!(rt;
+            shown(alloc, &drawing)?.as_str(),
+            path.as_str(),
+            "{coordinate}"
+        );
+    }
+    Ok(())
+}
+
+/// Coordinates with their fault and its byte, where the `(` is byte 0. The source ends 18 bytes behind the coordinate.
+const FAULTS: [(&str, Code, u32); 67] = [
+    // Forms that aren't built: neither `,` nor `:` outside braces, or `-|` or `|-` outside braces.
+    ("()", Code::Unbuilt, 0),
+    ("( )", Code::Unbuilt, 0),
+    ("(a)", Code::Unbuilt, 0),
+    ("(a.north)", Code::Unbuilt, 0),
+    ("({1,2})", Code::Unbuilt, 0),
+    ("({30:1})", Code::Unbuilt, 0),
+    ("(1,0 |- 0,1)", Code::Unbuilt, 0),
+    ("(1,0-|0,1,2)", Code::Unbuilt, 0),
+    ("(1--|2,0)", Code::Unbuilt, 0),
+    ("(0,1/0-|a)", Code::Unbuilt, 0),
+    ("(-|)", Code::Unbuilt, 0),
+    // In braces, or with a Space or a brace between, these are tokens of an expression.
+    ("({0-|1},0)", Code::Expression, 4),
+    ("(1- |2,0)", Code::Expression, 4),
+    ("(1| -2,0)", Code::Expression, 3),
+    ("({-}|1,0)", Code::Expression, 3),
+    ("(-{|}1,0)", Code::Expression, 3),
+    // The first `)` outside braces ends the text, also inside parentheses.
+    ("(sin(30),0)", Code::Unbuilt, 0),
+    ("(max(1,2),0)", Code::Expression, 5),
+    ("((1),2)", Code::Unbuilt, 0),
+    // A `}` that closes no brace of the text comes before its form, and so do tokens that run out.
+    ("(0,0})", Code::Unbuilt, 4),
+    ("(0-|0})", Code::Unbuilt, 5),
+    ("(}0,0)", Code::Unbuilt, 1),
+    ("(", Code::Unbuilt, 19),
+    ("(0,0", Code::Unbuilt, 22),
+    ("(1/0,0", Code::Unbuilt, 24),
+    ("({0,0)", Code::Unbuilt, 24),
+    // A second `,` is asked before any value.
+    ("(1,2,3)", Code::Coordinate, 0),
+    ("(1,2,)", Code::Coordinate, 0),
+    ("(20000,1/0,3)", Code::Coordinate, 0),
+    ("(0,0 -- (1,0)", Code::Coordinate, 0),
+    ("(1,{2,3})", Code::Expression, 5),
+    // The first `,` or `:` tells the form.
+    ("(1,30:2)", Code::Expression, 5),
+    ("(30:1,2)", Code::Expression, 5),
+    ("(0?1:2,3)", Code::Expression, 3),
+    // Empty parts.
+    ("(,0)", Code::Expression, 0),
+    ("(0,)", Code::Expression, 0),
+    ("( , )", Code::Expression, 0),
+    ("({},0)", Code::Expression, 0),
+    ("({ },0)", Code::Expression, 2),
+    ("(:1)", Code::Expression, 0),
+    ("(30:)", Code::Expression, 0),
+    ("(30:1 and )", Code::Expression, 0),
+    ("(30:and 1)", Code::Expression, 0),
+    ("(30:1 and 2 and 3)", Code::Expression, 12),
+    ("(30:1 And 2)", Code::Expression, 6),
+    // Numbers, names and operators that aren't as they have to be.
+    ("(1.2.3,0)", Code::Expression, 4),
+    ("(.,0)", Code::Expression, 1),
+    ("(. 5,0)", Code::Expression, 2),
+    ("(0 0,1)", Code::Expression, 3),
+    ("(1+,0)", Code::Expression, 2),
+    ("(a,0)", Code::Expression, 1),
+    ("(1 c m,0)", Code::Expression, 3),
+    ("(0,1 cmm)", Code::Expression, 5),
+    ("(\\x,0)", Code::Expression, 1),
+    ("($(0,0)", Code::Expression, 1),
+    ("({foo(1)},0)", Code::Expression, 2),
+    ("({sin(1,2)},0)", Code::Expression, 2),
+    // 64 parentheses may be open.
+    (
+        "({(((((((((((((((((((((((((((((((((((((((((((((((((((((((((((((((((1)))))))))))))))))))))))))))))))))))))))))))))))))))))))))))))))))},0)",
+        Code::TooDeep,
+        66,
+    ),
+    // Values, x before y.
+    ("(1/0,sqrt)", Code::DivZero, 2),
+    ("({sqrt(-1)},1/0)", Code::Domain, 2),
+    ("(2^0.5,0)", Code::Domain, 2),
+    ("(16384pt,0pt)", Code::TooLarge, 1),
+    ("(0,600cm)", Code::TooLarge, 3),
+    ("(600*1cm,0)", Code::TooLarge, 4),
+    // A length in centimetres that is past the range stands at the `(`.
+    ("(600,0)", Code::TooLarge, 0),
+    ("(0:600)", Code::TooLarge, 0),
+    ("(600,1/0)", Code::DivZero, 6),
+];
+
+#[test]
+fn coordinates_have_their_first_fault(rt: HostRuntime) -> Result<(), Fail> {
+    // 26 bytes stand before the coordinate.
+    for (coordinate, code, at) in FAULTS {
+        assert!(rt; at < 100);
+        let source = format!(in rt.alloc();
+            "\\begin{{tikzpicture}}\n\\draw {coordinate};\\end{{tikzpicture}}"
+        )?;
+        assert_eq!(rt;
+            fault(&rt, rt.alloc(), source.as_str(), 0),
+            Some(Fault { code, at: 26 + at }),
+            "{coordinate}"
         );
     }
     Ok(())
@@ -161,53 +327,32 @@ fn lines_have_their_first_fault(rt: HostRuntime) -> Result<(), Fail> {
 #[test]
 fn sources_have_their_first_fault(rt: HostRuntime) -> Result<(), Fail> {
     let rows = [
-        ("", Code::Unbuilt, 0),
-        ("\\be", Code::Unbuilt, 0),
-        ("\\begin", Code::Unbuilt, 6),
-        // A `{` that is left open comes first.
-        ("\\begin{tikz", Code::Brace, 6),
-        ("\\begin{tikzpicture}\n", Code::Unbuilt, 20),
-        ("\\begin{tikzpicture}\n\\draw", Code::Unbuilt, 25),
-        ("\\begin{tikzpicture}\n\\draw (0,0", Code::Unbuilt, 30),
-        ("\\begin{tikzpicture}\n\\draw (0,0) --", Code::Unbuilt, 34),
-        (
-            "\\begin{tikzpicture}\n\\draw (0,0) -- (1,0);\n",
-            Code::Unbuilt,
-            42,
-        ),
+        ("", 0),
+        ("\\be", 0),
+        ("\\begin", 6),
+        ("\\begin{tikz", 11),
+        ("\\begin{tikzpicture}\n", 20),
+        ("\\begin{tikzpicture}\n\\draw", 25),
+        ("\\begin{tikzpicture}\n\\draw (0,0", 30),
+        ("\\begin{tikzpicture}\n\\draw (0,0) --", 34),
+        ("\\begin{tikzpicture}\n\\draw (0,0) -- (1,0);\n", 42),
         (
             "\\begin{tikzpicture}\n\\draw (0,0) -- (1,0);\n\\end{tikzpicture",
-            Code::Brace,
-            46,
+            58,
         ),
-        (
-            "\\begin{tikzpicture}\\end{tikzpicture} x",
-            Code::Unbuilt,
-            37,
-        ),
+        ("\\begin{tikzpicture}\\end{tikzpicture} x", 37),
         (
             "\\begin{tikzpicture}\\end{tikzpicture}\n\\begin{tikzpicture}\\end{tikzpicture}\n",
-            Code::Unbuilt,
             37,
         ),
-        ("\\begin{tikz picture}\\end{tikzpicture}", Code::Unbuilt, 11),
-        ("\\begin{ tikzpicture}\\end{tikzpicture}", Code::Unbuilt, 7),
-        ("\\begin{tikzpicture}\\end{scope}", Code::Unbuilt, 24),
-        (
-            "\\begin{tikzpicture}\\draw (6,0); \u{e9}",
-            Code::Unbuilt,
-            32,
-        ),
-        (
-            "\\begin{tikzpicture}\\draw (600,0); \u{e9}",
-            Code::TooLarge,
-            25,
-        ),
-        ("x\u{e9}\u{7}", Code::BadChar, 3),
+        ("\\begin{tikz picture}\\end{tikzpicture}", 11),
+        ("\\begin{ tikzpicture}\\end{tikzpicture}", 7),
+        ("\\begin{tikzpicture}\\end{scope}", 24),
     ];
-    for (source, code, at) in rows {
+    for (source, at) in rows {
+        let code = Code::Unbuilt;
         assert_eq!(rt;
-            fault(&rt, rt.alloc(), source),
+            fault(&rt, rt.alloc(), source, 0),
             Some(Fault { code, at }),
             "{source}"
         );
@@ -215,9 +360,290 @@ fn sources_have_their_first_fault(rt: HostRuntime) -> Result<(), Fail> {
     for source in [
         " \n\\begin {tikzpicture}\n\n\\end\n{tikzpicture} \n",
         "\\begin{tikzpicture}\\end{tikzpicture}",
-        "\u{feff}% \u{e9}{\r\n\\begin%\n{tikzpicture}\t\r\n\\end{tikzpicture}%",
     ] {
-        assert!(rt; outcome(&rt, rt.alloc(), source).is_ok(), "{source}");
+        assert!(rt; outcome(&rt, rt.alloc(), source, 0).is_ok(), "{source}");
+    }
+    Ok(())
+}
+
+/// Lines with the units that they cost and their paths.
+const COSTS: [(&str, u64, &str); 27] = [
+    // The text of the call has 16 tokens.
+    (
+        r"\newcommand{\seg}[2]{\draw (#1) -- (#2);}\seg{0,0}{1,0}",
+        17,
+        "path 26214: M 0 0 L 1864679 0; ",
+    ),
+    (
+        r"\def\g{\draw (0,0) -- (1,0);}\g",
+        17,
+        "path 26214: M 0 0 L 1864679 0; ",
+    ),
+    // A definition lasts to the end of its group, or of the picture.
+    (
+        r"{\def\x{1}\draw (0,0) -- (\x,0);}",
+        2,
+        "path 26214: M 0 0 L 1864679 0; ",
+    ),
+    (
+        r"\def\x{1}{\def\x{2}}\draw (0,0) -- (\x,0);",
+        2,
+        "path 26214: M 0 0 L 1864679 0; ",
+    ),
+    (
+        r"\def\x{1}{\def\x{2}\draw (0,0) -- (\x,0);}",
+        2,
+        "path 26214: M 0 0 L 3729358 0; ",
+    ),
+    (
+        r"\def\x{1}{{\def\x{2}}\draw (0,0) -- (\x,0);}",
+        2,
+        "path 26214: M 0 0 L 1864679 0; ",
+    ),
+    (
+        r"{\draw (0,0) -- (1,0);}{}{ }\draw (0,0) -- (0,1);",
+        0,
+        "path 26214: M 0 0 L 1864679 0; path 26214: M 0 0 L 0 1864679; ",
+    ),
+    // Paths are read through expansion, letter by letter.
+    (
+        r"\def\a{--}\draw (0,0) \a (1,0);",
+        3,
+        "path 26214: M 0 0 L 1864679 0; ",
+    ),
+    (
+        r"\def\a{-}\draw (0,0)-\a(1,0);",
+        2,
+        "path 26214: M 0 0 L 1864679 0; ",
+    ),
+    (
+        r"\def\e{}\draw (0,0)-\e-(1,0);",
+        1,
+        "path 26214: M 0 0 L 1864679 0; ",
+    ),
+    (
+        r"\def\c{cyc}\draw (1,0)--\c le;",
+        4,
+        "path 26214: M 1864679 0 Z; ",
+    ),
+    (
+        r"\def\p{(0,0)}\draw\p--(1,0);",
+        6,
+        "path 26214: M 0 0 L 1864679 0; ",
+    ),
+    (
+        r"\def\s{ }\draw\s(0,0)\s--\s(1,0)\s;\s",
+        10,
+        "path 26214: M 0 0 L 1864679 0; ",
+    ),
+    (
+        r"\def\z{;}\draw (0,0)--(1,0)\z",
+        2,
+        "path 26214: M 0 0 L 1864679 0; ",
+    ),
+    (
+        r"\def\d{\draw}\d(0,0)--(1,0);",
+        2,
+        "path 26214: M 0 0 L 1864679 0; ",
+    ),
+    // A call may open a group, since it is no part of its body.
+    (
+        r"\def\o#1{#1\draw(0,0)--(1,0);}\o{{}}",
+        17,
+        "path 26214: M 0 0 L 1864679 0; ",
+    ),
+    // A control word that has a macro is a call, whatever it meant.
+    (r"\def\draw{}\draw\draw", 2, ""),
+    // The text of a coordinate ends as it is written, and is then expanded.
+    (
+        r"\def\c{1,0}\draw (0,0)--(\c);",
+        4,
+        "path 26214: M 0 0 L 1864679 0; ",
+    ),
+    (
+        r"\def\c{ 1 , 0 }\draw (0,0)--(\c);",
+        8,
+        "path 26214: M 0 0 L 1864679 0; ",
+    ),
+    (
+        r"\def\u#1{#1pt}\draw (0,0)--(\u{1},\u2);",
+        8,
+        "path 26214: M 0 0 L 65536 131072; ",
+    ),
+    // `\edef` expands its body when it is read, and `\def` when it is used.
+    (
+        r"\def\x{1}\edef\y{\x}\def\x{2}\draw (0,0)--(\y,0);",
+        4,
+        "path 26214: M 0 0 L 1864679 0; ",
+    ),
+    (
+        r"\def\x{1}\def\y{\x}\def\x{2}\draw (0,0)--(\y,0);",
+        4,
+        "path 26214: M 0 0 L 3729358 0; ",
+    ),
+    (
+        r"\def\x{\def\y{1}}\x\draw (0,0)--(\y,0);",
+        8,
+        "path 26214: M 0 0 L 1864679 0; ",
+    ),
+    (
+        r"\renewcommand * \x [ 0 ] {1}\draw (0,0)--(\x,0);",
+        2,
+        "path 26214: M 0 0 L 1864679 0; ",
+    ),
+    // Where the last call costs nothing more than what is there.
+    (r"\def\x{}\x\x\x", 3, ""),
+    (
+        r"\def\x{1}\draw (\x,0)--(\x,\x);",
+        6,
+        "path 26214: M 1864679 0 L 1864679 1864679; ",
+    ),
+    ("", 0, ""),
+];
+
+#[test]
+fn calls_cost_their_units(rt: HostRuntime) -> Result<(), Fail> {
+    let alloc = rt.alloc();
+    for (line, units, paths) in COSTS {
+        let source = format!(in alloc; "\\begin{{tikzpicture}}\n{line}\n\\end{{tikzpicture}}\n")?;
+        match outcome(&rt, alloc, source.as_str(), units) {
+            Ok(compiled) => {
+                assert_eq!(rt; shown(alloc, &compiled.drawing)?.as_str(), paths, "{line}");
+                assert_eq!(rt; compiled.units, units, "{line}");
+            }
+            Err(_) => return Err("a drawing was refused".into()),
+        }
+        if units > 0 {
+            match fault(&rt, alloc, source.as_str(), units - 1) {
+                Some(fault) => assert_eq!(rt; fault.code, Code::Budget, "{line}"),
+                None => return Err("too much was paid".into()),
+            }
+        }
+    }
+    Ok(())
+}
+
+/// Lines with a budget, their fault and its column, counted from 1.
+const LINES: [(&str, u64, Code, u32); 31] = [
+    // The costs are 6, 8, 12, 20, 36, then 68.
+    (r"\def\f#1{\f{#1#1}}\f{x}", 100, Code::Budget, 10),
+    (r"\def\g{\draw (0,0) -- (1,0);}\g", 16, Code::Budget, 30),
+    (r"\def\x{1}\draw (\x,0)--(\x,1);", 1, Code::Budget, 17),
+    (r"\def\x{1}\draw (\x,0)--(\x,1);", 3, Code::Budget, 25),
+    (r"\def\x{1}\edef\y{\x}", 1, Code::Budget, 18),
+    // An argument is missing at the end of a group, a coordinate's text, a body, and the source.
+    (r"\def\h#1{#1}{\h}", 100, Code::MacroArg, 14),
+    (r"\def\h#1{#1}\draw (\h)--(0,0);", 100, Code::MacroArg, 20),
+    (r"\def\h#1{#1}\edef\y{\h}", 100, Code::MacroArg, 21),
+    (r"\def\h#1#2{#1}{\h x}", 100, Code::MacroArg, 16),
+    // What a group defined is unknown after it, and so is what a definition in the text of a call defined.
+    (
+        r"{\def\x{1}}\draw (0,0) -- (\x,0);",
+        9,
+        Code::Expression,
+        28,
+    ),
+    (r"{\def\x{\draw}}\x (0,0);", 9, Code::Unbuilt, 16),
+    // Definitions that aren't of their form.
+    (r"\def x{}", 9, Code::MacroSyntax, 6),
+    (r"\def\x#2{}", 9, Code::MacroSyntax, 8),
+    (r"\def\x{#}", 9, Code::MacroSyntax, 8),
+    (r"{\def\x}", 9, Code::MacroSyntax, 8),
+    (r"\edef\x#1{}", 9, Code::MacroSyntax, 8),
+    (r"\newcommand{\x}[a]{}", 9, Code::MacroSyntax, 17),
+    // Forms that aren't built.
+    (r"{\end{tikzpicture}}", 9, Code::Unbuilt, 2),
+    (r"\begin{scope}", 9, Code::Unbuilt, 1),
+    (r"{x}", 9, Code::Unbuilt, 2),
+    (r"\relax", 9, Code::Unbuilt, 1),
+    (r"\x", 9, Code::Unbuilt, 1),
+    (r"\draw (0,0) \def\x{1};", 9, Code::Unbuilt, 13),
+    (r"\draw (0,0) {};", 9, Code::Unbuilt, 13),
+    (r"{\draw (0,0)}", 9, Code::Unbuilt, 13),
+    (r"{\draw (0,0}", 9, Code::Unbuilt, 12),
+    (r"\def\c{1-|0}\draw (0,0)--(\c);", 9, Code::Unbuilt, 26),
+    // A token stands where it was written, also in the text of a call.
+    (r"\def\x{1/0}\draw (\x,0)--(1/0,0);", 9, Code::DivZero, 9),
+    (r"\def\x{y}\x", 9, Code::Unbuilt, 8),
+    // The first fault stands: the call in the first coordinate can't be paid, and the second has no value.
+    (r"\def\x{1}\draw (\x,0)--(1/0,0);", 1, Code::Budget, 17),
+    (r"\def\x{1}\draw (1/0,0)--(\x,0);", 1, Code::DivZero, 18),
+];
+
+#[test]
+fn calls_and_groups_have_their_first_fault(rt: HostRuntime) -> Result<(), Fail> {
+    let alloc = rt.alloc();
+    for (line, budget, code, column) in LINES {
+        assert!(rt; column < 100);
+        let source = format!(in alloc; "\\begin{{tikzpicture}}\n{line}\n\\end{{tikzpicture}}\n")?;
+        assert_eq!(rt;
+            fault(&rt, alloc, source.as_str(), budget),
+            Some(Fault {
+                code,
+                at: 19 + column
+            }),
+            "{line}"
+        );
+    }
+    // The search for a `)` goes to the end, also where the text of a call has one.
+    let source = "\\begin{tikzpicture}\n\\def\\c{1,0)}\\draw (0,0) -- (\\c;\n\\end{tikzpicture}\n";
+    assert_eq!(rt;
+        fault(&rt, alloc, source, 100),
+        Some(Fault {
+            code: Code::Unbuilt,
+            at: 70
+        })
+    );
+    Ok(())
+}
+
+/// So many groups in one another, with something in the innermost.
+fn nested(alloc: Global, depth: u32, inside: &str) -> Result<String, AllocError> {
+    let mut source = String::new(alloc);
+    source.push_str("\\begin{tikzpicture}\n")?;
+    for _ in 0..depth {
+        source.push('{')?;
+    }
+    source.push_str(inside)?;
+    for _ in 0..depth {
+        source.push('}')?;
+    }
+    source.push_str("\n\\end{tikzpicture}\n")?;
+    Ok(source)
+}
+
+#[test]
+fn at_most_128_levels_are_open(rt: HostRuntime) -> Result<(), Fail> {
+    let alloc = rt.alloc();
+    // The picture's level is the first. The groups begin at byte 20.
+    let rows = [
+        (128, "", 147),
+        (127, "\\draw (0,0)--(1,0);", 147),
+        (128, "\\x", 147),
+    ];
+    for (depth, inside, at) in rows {
+        let source = nested(alloc, depth, inside)?;
+        let code = Code::Levels;
+        assert_eq!(rt;
+            fault(&rt, alloc, source.as_str(), 0),
+            Some(Fault { code, at })
+        );
+    }
+    let rows = [
+        (127, "", ""),
+        (
+            126,
+            "\\draw (0,0)--(1,0);",
+            "path 26214: M 0 0 L 1864679 0; ",
+        ),
+        (127, "\\def\\x{}\\x", ""),
+    ];
+    for (depth, inside, paths) in rows {
+        let source = nested(alloc, depth, inside)?;
+        match outcome(&rt, alloc, source.as_str(), 1) {
+            Ok(compiled) => assert_eq!(rt; shown(alloc, &compiled.drawing)?.as_str(), paths),
+            Err(_) => return Err("a drawing was refused".into()),
+        }
     }
     Ok(())
 }

@@ -1,0 +1,22 @@
+use Rattle.std.proofs.Common.{rules, arith, sym, ◌∙◌}
+use Rattle.tk_picture.proofs.Closers.{closer_opens, closer_closes, closer_found, closer_passes, no_closer}
+use Rattle.tk_picture.proofs.coordinate.closer.Goals as goal
+
+pub loop-tok-preserved-in-Continue-1 : goal.loop-tok-preserved-in-Continue-1
+loop-tok-preserved-in-Continue-1 c =
+    c.loop-tok.invariant ∙ closer_opens c.loop-tok.input.rest c.in-Some.tok c.raw.new.self.rest c.in-Some.ensures.rest _ _ (search rules) c.in-Open.is
+
+pub returns-then-is_none : goal.returns-then-is_none
+returns-then-is_none c =
+    sym (c.loop-tok.invariant ∙ closer_found c.loop-tok.input.rest c.in-Some.tok c.raw.new.self.rest c.in-Some.ensures.rest _ (search rules) c.in-Close.is)
+
+pub loop-tok-preserved-else-is_none : goal.loop-tok-preserved-else-is_none
+loop-tok-preserved-else-is_none c =
+    c.loop-tok.invariant ∙ closer_closes c.loop-tok.input.rest c.in-Some.tok c.raw.new.self.rest c.in-Some.ensures.rest _ _ (search rules) c.in-Close.is
+
+pub loop-tok-preserved : goal.loop-tok-preserved
+loop-tok-preserved c =
+    c.loop-tok.invariant ∙ closer_passes c.loop-tok.input.rest c.in-Some.tok c.raw.new.self.rest c.in-Some.ensures.rest _ c.in_default-kind.not-Open c.in_default-kind.not-Close
+
+pub returns : goal.returns
+returns c = sym (c.loop-tok.invariant ∙ no_closer _ c.loop-tok.input.rest (search rules))

@@ -1,0 +1,17 @@
+use Rattle.std.proofs.Common.{rules, ◌∙◌}
+use Rattle.tk_picture.proofs.Written.{char_met, char_missed, text_met}
+use Rattle.tk_picture.proofs.run.Run.expect_text.Goals as goal
+
+pub returns-in_err-expect_char-clause-gives : goal.returns-in_err-expect_char-clause-gives
+returns-in_err-expect_char-clause-gives c =
+    let e = c.loop-byte.invariant.told ∙ char_missed c.args.text.now c.args.self.now.end c.loop-byte.byte-index c.loop-byte.input.rest c.in_err-expect_char.field-0.0 c.loop-byte-test.true (search rules) in
+    search rules
+
+pub loop-byte-preserved : goal.loop-byte-preserved
+loop-byte-preserved c = record {
+  told = c.loop-byte.invariant.told ∙ char_met c.args.text.now c.args.self.now.end c.loop-byte.byte-index _ _ c.loop-byte-test.true (search rules);
+  end = search rules;
+}
+
+pub returns-clause-gives : goal.returns-clause-gives
+returns-clause-gives c = c.loop-byte.invariant.told ∙ text_met c.args.text.now c.args.self.now.end c.loop-byte.byte-index _ c.loop-byte-test.false
