@@ -1,7 +1,9 @@
-pub mod Form
-pub mod Coordinates
-pub mod Repeat
-pub mod Paths
 pub mod Commands
+pub mod Configurations
+pub mod Coordinates
+pub mod Documents
+pub mod Flow
 pub mod Outcome
-pub mod Reading
+pub mod Paths
+pub mod Pictures
+pub mod Views

@@ -1,16 +1,32 @@
 -- What a source stands for.
-use Rattle.std.specs.Prelude.{ℕ, List, length, map, Result, Ok, Err}
+use Rattle.std.specs.Prelude.{ℕ, List, length, map, pos}
 use Rattle.tk_token.specs.Answers.{Answer, ◌>>=◌}
 use Rattle.tk_token.specs.Faults.{Lexes}
 use Rattle.tk_token.specs.Token.{Token}
 use Rattle.tk_token.specs.Words.{words_of, tok_of}
+use Rattle.tk_expand.specs.Unread.{unread}
+use Rattle.tk_expr.specs.declared.FontUnits.{FontUnits}
+use Rattle.tk_expr.specs.Evaluates.{Evaluation, IsEvaluation}
+use Rattle.tk_keys.specs.Given.{Given, known_words}
 use Rattle.tk_picture.specs.declared.Compiled.{Compiled}
-use Rattle.tk_picture.specs.Commands.{document}
+use Rattle.tk_picture.specs.Documents.{document}
 
--- what tokens draw that run out at the end: words go by the numbers of their first appearances
-abbrev pub drawn_by : ℕ → ℕ → List Token → Answer Compiled
-drawn_by budget end ts = document (record { names = words_of ts; end = end; budget = budget }) (map (tok_of (words_of ts)) ts)
+-- the font's units: an em is 10pt, and an ex is 4.3pt
+abbrev pub font_units : FontUnits
+font_units = record { em = pos 655360; ex = pos 281805 }
 
--- the drawing of a source and the units that it costs, or its first fault: that of cutting it into tokens, or else that of its tokens
+-- what is given for a run over these tokens, with a way to evaluate and a budget
+abbrev pub given_for : Evaluation → ℕ → List Token → Given
+given_for ev budget ts = record { names = known_words (words_of ts); evaluate = ev; font = font_units; budget = budget }
+
+-- what tokens draw that run out at that place: words go by the numbers of their first appearances
+abbrev pub document_of : Evaluation → ℕ → ℕ → List Token → Answer Compiled
+document_of ev budget end ts = document (given_for ev budget ts) (unread (map (tok_of (words_of ts)) ts) end)
+
+-- The drawing of a source and the units that it costs, or its first fault: that of cutting it into tokens, or else that
+-- of its tokens. Expressions have the answers of `Evaluates`, of which each has one.
 pub data IsOutcome (budget : ℕ) (source : List ℕ) : Answer Compiled → Type 0 where
-  of_tokens : {tokens : Answer (List Token)} → Lexes source tokens → IsOutcome budget source (tokens >>= drawn_by budget (length source))
+  of_tokens : {tokens : Answer (List Token)} {ev : Evaluation}
+    → Lexes source tokens
+    → IsEvaluation ev
+    → IsOutcome budget source (tokens >>= document_of ev budget (length source))

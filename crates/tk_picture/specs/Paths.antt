@@ -1,69 +1,95 @@
--- What a path draws.
-use Rattle.std.specs.Prelude.{ℕ, if◌then◌else◌, List, [], ◌∷◌, ◌++◌, Ok, codes}
+-- Paths.
+use Rattle.std.specs.Prelude.{ℕ, if◌then◌else◌, Ok, codes}
 use Rattle.tk_item.specs.declared.Seg.{Seg}
 use Rattle.tk_item.specs.declared.Seg.TheVariants.{Move, Line, Close}
-use Rattle.tk_token.specs.Answers.{Answer, ◌>>=◌}
-use Rattle.tk_token.specs.Groups.{is_sign}
-use Rattle.tk_store.specs.Levels.{Macros}
-use Rattle.tk_expand.specs.Expand.{Left, work}
-use Rattle.tk_picture.specs.Form.{Run, Taken, is_there, behind, next_solid, behind_next, behind_letters}
+use Rattle.tk_token.specs.declared.Code.TheVariants.{Budget}
+use Rattle.tk_token.specs.Answers.{Answer, ◌>>=◌, fault}
+use Rattle.tk_token.specs.Characters.{dash, semicolon}
+use Rattle.tk_token.specs.Kinds.{is_char}
+use Rattle.tk_token.specs.Recursion.{by_size}
+use Rattle.tk_expand.specs.Reading.{is_there}
+use Rattle.tk_keys.specs.Given.{Given}
+use Rattle.tk_picture.specs.Flow.{Flow, Goes_on, Ends, go_on}
+use Rattle.tk_picture.specs.Pictures.{with_seg}
+use Rattle.tk_picture.specs.Configurations.{Configuration, Progress, progress_at, Lookahead, must_be, work_at, ahead_of, behind_next, behind_letters}
 use Rattle.tk_picture.specs.Coordinates.{point}
-use Rattle.tk_picture.specs.Repeat.{Step, More, Ended, until_end}
 
--- the pieces of a path so far, and what is left
-pub record Going : Type 0 where
-  pub segs : List Seg
-  pub left : Left
+-- what operations stand in: a path, whose command stands at that place, up to its `;`
+pub data PathOpener : Type 0 where
+  A_path : ℕ → PathOpener
 
--- those pieces, and that
-abbrev pub going : List Seg → Left → Going
-going segs left = record { segs = segs; left = left }
+-- operations, up to the end of what they stand in
+pub record Stretch : Type 0 where
+  pub opener : PathOpener
+  pub start : Configuration
 
--- what a part of a path leaves: more parts follow, or the path was ended
-abbrev pub Part : Type 0
-Part = Step Going Going
+-- those operations
+abbrev pub stretch : PathOpener → Configuration → Stretch
+stretch opener start = record { opener = opener; start = start }
+
+-- what a part of a path leaves: more operations follow, or the path was ended
+abbrev pub PathFlow : Type 0
+PathFlow = Flow Configuration Progress
+
+-- the path has one more piece
+abbrev pub drawn_with : Seg → Configuration → Configuration
+drawn_with seg c = record c { picture = with_seg seg c.picture }
+
+-- the letter `c`
+abbrev pub letter_c : ℕ
+letter_c = 99
 
 -- `;` ends the path
-unfoldable pub path_end : ℕ → List Seg → Taken → Answer Part
-path_end end segs first = do
-  rest ← behind (is_sign 59) end first
-  Ok (Ended (going segs rest))
+unfoldable pub path_end : Lookahead → Answer PathFlow
+path_end first = do
+  behind ← must_be (is_char semicolon) first
+  Ok (Ends (progress_at behind))
 
-module _ (run : Run) (macros : Macros) where
+module _ (given : Given) where
   -- a line to a coordinate
-  unfoldable pub line : List Seg → Taken → Answer Part
-  line segs first = do
-    p ← point run macros first
-    Ok (More (going (segs ++ Line p.point ∷ []) p.left))
+  unfoldable pub line : Lookahead → Answer PathFlow
+  line first = do
+    end ← point given first
+    Ok (Goes_on (drawn_with (Line end.point) end.behind))
 
   -- `cycle`, whose `c` was taken; after it the path has to end
-  unfoldable pub cycle : List Seg → Left → Answer Part
-  cycle segs l = do
-    rest ← behind_letters run macros (codes "ycle") l
-    last ← next_solid run macros rest
-    path_end run.end (segs ++ Close ∷ []) last
+  unfoldable pub cycle : Configuration → Answer PathFlow
+  cycle c = do
+    behind ← behind_letters given (codes "ycle") c
+    last ← ahead_of given (drawn_with Close behind)
+    path_end last
 
-  -- `--` and its target
-  unfoldable pub operation : List Seg → Taken → Answer Part
-  operation segs first = do
-    dash ← behind (is_sign 45) run.end first
-    dashes ← behind_next run macros (is_sign 45) dash
-    target ← next_solid run macros dashes
-    if is_there (is_sign 99) target.first then cycle segs target.left else line segs target
+  -- `--` and its target, which is `cycle` or a coordinate
+  unfoldable pub operation : Lookahead → Answer PathFlow
+  operation first = do
+    one ← must_be (is_char dash) first
+    both ← behind_next given (is_char dash) one
+    target ← ahead_of given both
+    if is_there (is_char letter_c) target.token then cycle target.behind else line target
 
   -- `;`, or one operation
-  unfoldable pub path_part : Going → Answer Part
-  path_part g = do
-    first ← next_solid run macros g.left
-    if is_there (is_sign 59) first.first then path_end run.end g.segs first else operation g.segs first
+  unfoldable pub path_part : Configuration → Answer PathFlow
+  path_part c = do
+    first ← ahead_of given c
+    if is_there (is_char semicolon) first.token then path_end first else operation first
 
-  -- the pieces of a path to its `;`
-  unfoldable pub operations : Going → Answer Going
-  operations = until_end (λ g. work run.budget macros g.left) run.end path_part
+  -- one part, and the operations that follow it
+  abbrev pub operations_step : (Stretch → Answer Progress) → Stretch → Answer Progress
+  operations_step operations s = do
+    part ← path_part s.start
+    go_on (λ next. operations (stretch s.opener next)) part
 
-  -- the pieces of a path from behind its command: a coordinate is a Move, and lines follow
-  unfoldable pub path : Left → Answer Going
-  path l = do
-    first ← next_solid run macros l
-    start ← point run macros first
-    operations (going (Move start.point ∷ []) start.left)
+  -- the work that is left for operations
+  abbrev pub stretch_work : Stretch → ℕ
+  stretch_work s = work_at given s.start
+
+  -- the picture behind operations, with the path that they draw
+  unfoldable pub operations : Stretch → Answer Progress
+  operations = by_size stretch_work (fault Budget 0) operations_step
+
+  -- a path from behind its command, which stands at that place: a coordinate is a Move, and operations follow
+  unfoldable pub path : ℕ → Configuration → Answer Progress
+  path at c = do
+    first ← ahead_of given c
+    start ← point given first
+    operations (stretch (A_path at) (drawn_with (Move start.point) start.behind))

@@ -3,17 +3,16 @@
 
 mod commands;
 mod coordinate;
+mod drawer;
 mod laws;
 mod path;
 mod picture;
-mod run;
-mod source;
 #[cfg(test)]
 mod tests;
 
 pub use laws::{
-    a_path_is_its_parts, a_solid_front_is_its_step, a_source_has_one_outcome,
-    commands_are_their_step, each_source_has_an_outcome,
+    a_source_has_one_outcome, commands_are_their_step, commands_meet_no_bound,
+    each_source_has_an_outcome, operations_are_their_step, operations_meet_no_bound,
 };
 pub use picture::compile;
 use tk_item::Drawing;

@@ -1,0 +1,4 @@
+pub mod Environment
+pub mod Given
+pub mod Settings
+pub mod State

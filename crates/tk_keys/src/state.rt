@@ -1,0 +1,168 @@
+//! The state of a run.
+
+ghost use Rattle.std.specs.Prelude.{◌≡◌, ◌∷◌, ◌<◌, ◌≤◌, length, IfOk, OnOk, MatchResult, Ok, Err};
+ghost use Rattle.tk_token.specs.Refusals.{Gives};
+ghost use Rattle.tk_store.specs.Levels.{opened};
+ghost use Rattle.tk_expand.specs.Expand.{full, is_expanded};
+ghost use Rattle.tk_expand.specs.Reading.{taken, next, next_solid};
+ghost use Rattle.tk_expand.specs.Unread.{unread};
+ghost use Rattle.tk_keys.specs.Environment.{level};
+ghost use Rattle.tk_keys.specs.Given.{known_words};
+ghost use Rattle.tk_keys.specs.State.{first_state, env_of, stream_of, Pays};
+
+use std::alloc::{AllocError, Global};
+use std::marker::Model;
+use std::sync::ledger::Ledger;
+use tk_expand::{Input, Units, expand_all, is_expanded, next_solid};
+use tk_expr::FontUnits;
+use tk_store::{Steps, Store};
+use tk_token::{Code, Fault, Names, Refusal, Tok};
+
+/// How many levels can be open.
+const MOST_LEVELS: usize = 128;
+
+/// The state of a run: what was given for it, what words mean at each open level, and the units that were paid so far.
+#[derive(Drop)]
+pub struct State {
+    pub(crate) alloc: Global,
+    pub(crate) names: Names,
+    pub(crate) font: FontUnits,
+    pub(crate) store: Store,
+    pub(crate) units: Units,
+}
+
+impl Model for State {
+    ghost use Rattle.std.specs.Coded.{codes};
+    ghost use Rattle.std.specs.FinMap as map;
+    ghost use Rattle.tk_keys.specs.State.{State};
+
+    ghost Value = { State };
+
+    ghost coded = { Prim.hlevel (codes, map.code) };
+
+    ghost view = { λ s. record {
+        names = s.names;
+        font = s.font;
+        budget = s.units.budget;
+        levels = s.store;
+        units = s.units.used;
+    } };
+}
+
+impl State {
+    /// The state before a run over a source with these words, with the units of the font and so many units to pay.
+    pub fn new(
+        alloc: Global,
+        names: Names,
+        font: FontUnits,
+        budget: u64,
+    ) -> Result<State, AllocError>
+        requires { length names ≤ 17000000 }
+        ensures { IfOk result (λ state. state ≡ first_state names font budget) }
+    {
+        Ok(State {
+            alloc,
+            names: with_made_words(names)?,
+            font,
+            store: Store::new(alloc)?,
+            units: Units { used: 0, budget },
+        })
+    }
+
+    /// What new lists take their memory from.
+    pub fn allocator(&self) -> Global {
+        self.alloc
+    }
+
+    /// The words by their numbers. This takes no memory.
+    pub fn names(&self) -> &Names
+        ensures { result.now ≡ self.now.names }
+    {
+        &self.names
+    }
+
+    /// The units of the font, with which the state was made. This takes no memory.
+    pub fn font_units(&self) -> FontUnits
+        ensures { result ≡ self.now.font }
+    {
+        self.font
+    }
+
+    /// The units that were paid. This takes no memory.
+    pub fn used(&self) -> u64
+        ensures { result ≡ self.now.units }
+    {
+        self.units.used
+    }
+
+    /// Takes the next token of a list, once no macro call is in front.
+    pub fn next(&mut self, input: &mut Input) -> Result<Option<Tok>, Refusal>
+        ensures gives { Gives (λ tok. taken tok (stream_of self.new input.new)) result
+            (next self.old.budget (env_of self.old).macros (stream_of self.old input.old)) }
+        ensures pays { Pays self.old self.new }
+    {
+        input.next(&self.store, &mut self.units)
+    }
+
+    /// Takes the next token of a list that is no Space, with the Spaces before it.
+    pub fn next_solid(&mut self, input: &mut Input) -> Result<Option<Tok>, Refusal>
+        ensures gives { Gives (λ tok. taken tok (stream_of self.new input.new)) result
+            (next_solid self.old.budget (env_of self.old).macros (stream_of self.old input.old)) }
+        ensures pays { Pays self.old self.new }
+    {
+        next_solid(input, &self.store, &mut self.units)
+    }
+
+    /// Whether a list is its own expansion: no token of it calls a macro. This takes no memory.
+    pub fn is_expanded(&self, list: &[Tok]) -> bool
+        ensures { result ≡ is_expanded (env_of self.now).macros list.now }
+    {
+        is_expanded(list, &self.store)
+    }
+
+    /// A list with no macro call left.
+    pub fn expand(&mut self, list: &[Tok]) -> Result<Vec<Tok>, Refusal>
+        ensures pays { Pays self.old self.new }
+    {
+        expand_all(self.alloc, list, &self.store, &mut self.units)
+    }
+
+    /// Opens a level for what stands at that place; the fault is `Levels` there, exactly where 128 are open. This takes
+    /// no memory.
+    pub fn open(&mut self, at: u32) -> Result<(), Fault>
+        ensures gives { MatchResult result
+            (λ _. level at (env_of self.old) ≡ Ok (env_of self.new))
+            (λ fault. level at (env_of self.old) ≡ Err fault) }
+        ensures opened { OnOk result (self.new ≡ record self.old { levels = opened self.old.levels }) }
+    {
+        if self.store.level() >= MOST_LEVELS {
+            return Err(Fault {
+                code: Code::Levels,
+                at,
+            });
+        }
+        self.store.open();
+        Ok(())
+    }
+
+    /// Closes the last level: what was set at it ends. This takes no memory.
+    pub fn close<L: Ledger>(&mut self, steps: &mut Steps<L>)
+        requires { 0 < length self.old.levels.outer }
+        ensures levels { self.old.levels.outer ≡ self.new.levels.top ∷ self.new.levels.outer }
+        ensures kept { self.new ≡ record self.old { levels = self.new.levels } }
+    {
+        self.store.close(steps);
+    }
+}
+
+/// The words of a source, and those that a run makes itself.
+fn with_made_words(names: Names) -> Result<Names, AllocError>
+    requires { length names ≤ 17000000 }
+    ensures { IfOk result (λ all. all ≡ known_words names) }
+{
+    let mut all = names;
+    all.add("pgfkeysalso")?;
+    all.add("pgfkeyscurrentkey")?;
+    all.add("pgfkeyscurrentname")?;
+    Ok(all)
+}

@@ -1,0 +1,148 @@
+//! A picture as it is drawn, and what stands next in its list.
+
+ghost use Rattle.std.specs.Prelude.{◌≡◌, List, IfErr, OnErr, OnOk, IfSome, true, false};
+ghost use Rattle.std.specs.List.{AllByRecursion};
+ghost use Rattle.tk_item.specs.declared.Seg.{Seg as ASeg};
+ghost use Rattle.tk_item.specs.Frame.{IsProper};
+ghost use Rattle.tk_svg.specs.Fitting.{FitsItem, IsPath, BeginsWithMove};
+ghost use Rattle.tk_token.specs.Kinds.{is_char};
+ghost use Rattle.tk_token.specs.Refusals.{Gives};
+ghost use Rattle.tk_expand.specs.Reading.{is_there, place_of};
+ghost use Rattle.tk_picture.specs.Configurations.{ahead_of, behind_next, behind_letters, must_be};
+ghost use Rattle.tk_picture.specs.Pictures.{first_pen, drawn_by};
+ghost use Rattle.tk_picture.specs.Views.{given_to, picture_of, configuration_of, lookahead_of, OnlyPays, IsSound, Tells};
+
+use std::alloc::AllocError;
+use tk_expand::Input;
+use tk_item::{Cap, Dashes, Frame, Item, Items, Join, Rgb, Seg, Segs, Stroke, widen};
+use tk_keys::State;
+use tk_num::Scaled;
+use tk_token::{Code, Fault, Refusal, Tok};
+
+/// The width of the pen that a picture begins with, 0.4pt.
+const LINE_WIDTH: i64 = 26_214;
+
+/// A miter limit of ten.
+const MITER_LIMIT: i64 = 10 * 65_536;
+
+/// What a part of a run leaves: more parts follow, or the end was met.
+#[derive(Clone, Copy)]
+pub(crate) enum Flow {
+    GoesOn,
+    Ends,
+}
+
+/// A picture as it is drawn: the state of the run, the items so far, and the frame round them. Each item is a path that
+/// fits an SVG document.
+#[derive(Drop)]
+pub(crate) struct Drawer {
+    pub(crate) state: State,
+    pub(crate) items: Items,
+    pub(crate) frame: Option<Frame>,
+}
+
+impl Drawer {
+    /// Takes the next token that is no Space, with the Spaces before it.
+    #[tactic(auto, unfolding(crate::specs::Configurations::ahead_of))]
+    pub(crate) fn ahead(&mut self, input: &mut Input) -> Result<Option<Tok>, Refusal>
+        ensures gives { (segs : List ASeg) → Gives (λ tok. lookahead_of tok self.new segs input.new) result
+            (ahead_of (given_to self.old) (configuration_of self.old segs input.old)) }
+        ensures pays { OnlyPays self.old self.new }
+    {
+        self.state.next_solid(input)
+    }
+
+    /// Asks that the next token is that character.
+    #[tactic(auto, unfolding(crate::specs::Configurations::behind_next))]
+    pub(crate) fn expect_next(&mut self, input: &mut Input, wanted: char) -> Result<(), Refusal>
+        ensures gives { (segs : List ASeg) → Gives (λ _. configuration_of self.new segs input.new) result
+            (behind_next (given_to self.old) (is_char wanted) (configuration_of self.old segs input.old)) }
+        ensures pays { OnlyPays self.old self.new }
+    {
+        self.state.expect_next(input, Code::Unbuilt, wanted)
+    }
+
+    /// Asks that the characters of a text are next, with nothing between them.
+    #[tactic(auto, unfolding(crate::specs::Configurations::behind_letters))]
+    pub(crate) fn expect_letters(&mut self, input: &mut Input, text: &[u8]) -> Result<(), Refusal>
+        ensures gives { (segs : List ASeg) → Gives (λ _. configuration_of self.new segs input.new) result
+            (behind_letters (given_to self.old) text.now (configuration_of self.old segs input.old)) }
+        ensures pays { OnlyPays self.old self.new }
+    {
+        self.state.expect_letters(input, Code::Unbuilt, text)
+    }
+
+    /// Draws a path of these pieces, unless it is a Move alone.
+    pub(crate) fn add(&mut self, segs: Segs) -> Result<(), AllocError>
+        requires begins { BeginsWithMove segs }
+        requires sound { IsSound self.old }
+        ensures picture { OnOk result ((path : List ASeg) → picture_of self.new path ≡ drawn_by segs (picture_of self.old path)) }
+        ensures sound { OnOk result (IsSound self.new) }
+        ensures state { OnOk result (self.new.state ≡ self.old.state) }
+    {
+        if let [Seg::Move(_)] = segs.as_slice() {
+            return Ok(());
+        }
+        let pen = first_pen();
+        self.frame = widen(self.frame, segs.as_slice(), half_width(pen.width));
+        self.items.push(Item::Path(segs, None, Some(pen)))
+    }
+}
+
+/// Whether a token is there and is that character.
+pub(crate) fn is_there(first: Option<Tok>, wanted: char) -> bool
+    ensures { result ≡ is_there (is_char wanted) first }
+{
+    match first {
+        Some(tok) => tok.kind.is_char(wanted),
+        None => false,
+    }
+}
+
+/// Where a token stands that was taken, or where the list runs out.
+pub(crate) fn place(input: &Input, first: Option<Tok>) -> u32
+    ensures { result ≡ place_of input.now.end first }
+{
+    match first {
+        Some(tok) => tok.at,
+        None => input.end(),
+    }
+}
+
+/// Asks that a token that was taken is that character.
+pub(crate) fn expect(input: &Input, first: Option<Tok>, wanted: char) -> Result<(), Fault>
+    ensures ok { OnOk result (is_there (is_char wanted) first ≡ true) }
+    ensures missed { OnErr result (is_there (is_char wanted) first ≡ false) }
+    ensures fault { IfErr result (λ fault. fault ≡ record { code = Code.Unbuilt; at = place_of input.now.end first }) }
+{
+    if is_there(first, wanted) {
+        Ok(())
+    } else {
+        Err(unbuilt(place(input, first)))
+    }
+}
+
+/// The fault of a form that isn't built.
+pub(crate) fn unbuilt(at: u32) -> Fault
+    ensures { result ≡ record { code = Code.Unbuilt; at = at } }
+{
+    Fault {
+        code: Code::Unbuilt,
+        at,
+    }
+}
+
+/// The pen that a picture begins with.
+fn first_pen() -> Stroke
+    ensures { result ≡ first_pen }
+{
+    Stroke {
+        rgb: Rgb { r: 0, g: 0, b: 0 },
+        width: scaled(LINE_WIDTH),
+        cap: Cap::Butt,
+        join: Join::Miter,
+        miter: scaled(MITER_LIMIT),
+        dash: Dashes::new(),
+        phase: scaled(0),
+    }
+}
