@@ -1,9 +1,9 @@
 -- A meaning by size is one step over the meanings of what is smaller.
 use Rattle.std.specs.Prelude.{◌≡◌, ℕ, zero, suc, ◌<◌, Bool, true, false, nat_lt}
-use Rattle.std.proofs.Common.{refl, ap, arith}
+use Rattle.std.proofs.Common.{refl, sym, ap, ◌∙◌, arith}
 use Rattle.std.proofs.Math.Path.{fun_ext}
 use Rattle.std.proofs.lemmas.Bool.{ltb-true, lt-ltb}
-use Rattle.tk_token.specs.Fix.{ask, smaller, within, by_size}
+use Rattle.tk_token.specs.Recursion.{ask, smaller, within, by_size, AsksSmaller}
 
 module _ {A R : Type 0} (size : A → ℕ) (stuck : R) where
   ask_alike : (t : Bool) (f g : A → R) (b : A) → (t ≡ true → f b ≡ g b) → ask t stuck f b ≡ ask t stuck g b
@@ -51,3 +51,21 @@ module _ {A R : Type 0} (size : A → ℕ) (stuck : R) (step : (A → R) → A �
   pub kept : ((a : A) → P a stuck) → ((f : A → R) → ((b : A) → P b (f b)) → (a : A) → P a (step f a)) → (a : A) → P a (by_size size stuck step a)
   unfolding by_size
   kept base keep a = within_keeps base keep (suc (size a)) a
+
+-- What a step makes doesn't depend on the answer that stands for what isn't smaller.
+module _ {A R : Type 0} (size : A → ℕ) (step : (A → R) → A → R) (asks : AsksSmaller size step) (s t : R) where
+  depth_alike : (n : ℕ) (a : A) → size a < n → within size s step n a ≡ within size t step n a
+  unfolding within
+  depth_alike zero a h = absurd (omega arith)
+  depth_alike (suc n) a h =
+      asks (smaller size s (within size s step n) a) (smaller size t (within size t step n) a) a
+      (λ b lt. asked size s (within size s step n) a b lt ∙ depth_alike n b (omega arith) ∙ sym (asked size t (within size t step n) a b lt))
+
+  pub independent : (a : A) → by_size size s step a ≡ by_size size t step a
+  unfolding by_size
+  independent a = depth_alike (suc (size a)) a (omega arith)
+
+-- and it is one step over itself
+pub unbounded : {A R : Type 0} (size : A → ℕ) (stuck : R) (step : (A → R) → A → R) → AsksSmaller size step → (a : A) → by_size size stuck step a ≡ step (by_size size stuck step) a
+unbounded size stuck step asks a =
+    by_size_is size stuck step a ∙ asks (smaller size stuck (by_size size stuck step) a) (by_size size stuck step) a (λ b lt. asked size stuck (by_size size stuck step) a b lt)

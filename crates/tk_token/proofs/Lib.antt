@@ -8,8 +8,11 @@ pub mod Fronts
 pub mod Lines
 pub mod Listed
 pub mod Loop
+pub mod Once
+pub mod Outside
 pub mod Refused
 pub mod Runs
+pub mod Spaces
 pub mod Starts
 pub mod Texts
 pub mod Total

@@ -2,16 +2,17 @@
 use Rattle.std.specs.Prelude.{◌≡◌, ◌≢◌, ℕ, ◌-◌, Bool, true, false, ◌&&◌, ◌||◌, not, ◌==◌, nat_le, if◌then◌else◌, List, [], ◌∷◌, length, drop}
 use Rattle.std.specs.List.{prefix_len, take_while, after_first}
 use Rattle.std.specs.Str.{encode_utf8_all}
+use Rattle.tk_token.specs.Characters.{tab, line_feed, carriage_return, space, hash, percent, backslash, left_brace, right_brace}
 use Rattle.tk_token.specs.Token.{Sign, A_char, A_word, A_symbol, Opens, Closes, A_param, A_space, Token}
 use Rattle.tk_token.specs.Places.{is_line_end}
 
 -- a space or a tab
 abbrev pub is_indent : ℕ → Bool
-is_indent c = c == 32 || c == 9
+is_indent c = c == space || c == tab
 
 -- a blank is a space, a tab, a CR or an LF
 abbrev pub is_blank : ℕ → Bool
-is_blank c = is_indent c || c == 13 || c == 10
+is_blank c = is_indent c || c == carriage_return || c == line_feed
 
 -- `a` to `z`, `A` to `Z`
 abbrev pub is_letter : ℕ → Bool
@@ -33,11 +34,11 @@ after_letters cs = after_while is_letter cs
 abbrev pub after_comment : List ℕ → List ℕ
 after_comment cs = after_while is_indent (after_first is_line_end cs)
 
--- what stands after the gap in front, or, inside a comment of it, after what is left of the gap; 37 is `%`
+-- what stands after the gap in front, or, inside a comment of it, after what is left of the gap
 abbrev pub gap_end : Bool → List ℕ → List ℕ
 gap_end in_comment [] = []
 gap_end true (c ∷ cs) = gap_end (not (is_line_end c)) cs
-gap_end false (c ∷ cs) = if is_blank c then gap_end false cs else (if c == 37 then gap_end true cs else c ∷ cs)
+gap_end false (c ∷ cs) = if is_blank c then gap_end false cs else (if c == percent then gap_end true cs else c ∷ cs)
 
 -- what stands after the gap in front: blanks and comments, as many as there are
 abbrev pub after_gap : List ℕ → List ℕ
@@ -46,16 +47,19 @@ after_gap cs = gap_end false cs
 -- an LF stands in front
 abbrev pub begins_line_feed : List ℕ → Bool
 begins_line_feed [] = false
-begins_line_feed (c ∷ cs) = c == 10
+begins_line_feed (c ∷ cs) = c == line_feed
 
 -- a `\` is the control space where this stands after it: a space, a tab, a line end, which is an LF or a CR with an LF directly after it, or nothing
 abbrev pub makes_space : List ℕ → Bool
 makes_space [] = true
-makes_space (c ∷ cs) = is_indent c || c == 10 || (c == 13 && begins_line_feed cs)
+makes_space (c ∷ cs) = is_indent c || c == line_feed || (c == carriage_return && begins_line_feed cs)
 
 -- the sign of a single character: `{`, `}`, `#`, or a character that stands for itself
 abbrev pub single : ℕ → Sign
-single c = if c == 123 then Opens else (if c == 125 then Closes else (if c == 35 then A_param else A_char c))
+single c =
+    if c == left_brace then Opens else
+    (if c == right_brace then Closes else
+    (if c == hash then A_param else A_char c))
 
 -- how many bytes characters have
 abbrev pub byte_count : List ℕ → ℕ
@@ -65,19 +69,39 @@ byte_count cs = length (encode_utf8_all cs)
 abbrev pub token_at : ℕ → List ℕ → Sign → Token
 token_at n cs sign = record { sign = sign; at = n - byte_count cs }
 
--- The tokens of the last characters of a source of n bytes. 92 is `\`.
+-- The tokens of the last characters of a source of n bytes.
 pub data Tokens (n : ℕ) : List ℕ → List Token → Type 0 where
   -- no characters, no tokens
   ends : Tokens n [] []
   -- a comment that no blank of its gap stands before gives no token
-  comment : {cs : List ℕ} {ts : List Token} → Tokens n (after_comment cs) ts → Tokens n (37 ∷ cs) ts
+  comment : {cs : List ℕ} {ts : List Token}
+      → Tokens n (after_comment cs) ts
+      → Tokens n (percent ∷ cs) ts
   -- the first blank of a gap outside its comments is one space; what follows in the gap gives no token
-  gap : {c : ℕ} {cs : List ℕ} {ts : List Token} → is_blank c ≡ true → Tokens n (after_gap cs) ts → Tokens n (c ∷ cs) (token_at n (c ∷ cs) A_space ∷ ts)
+  gap : {c : ℕ} {cs : List ℕ} {ts : List Token}
+      → is_blank c ≡ true
+      → Tokens n (after_gap cs) ts
+      → Tokens n (c ∷ cs) (token_at n (c ∷ cs) A_space ∷ ts)
   -- `\` and letters, as many as there are; the gap after them gives no token
-  word : {c : ℕ} {cs : List ℕ} {ts : List Token} → is_letter c ≡ true → Tokens n (after_gap (after_letters (c ∷ cs))) ts → Tokens n (92 ∷ c ∷ cs) (token_at n (92 ∷ c ∷ cs) (A_word (letters_of (c ∷ cs))) ∷ ts)
+  word : {c : ℕ} {cs : List ℕ} {ts : List Token}
+      → is_letter c ≡ true
+      → Tokens n (after_gap (after_letters (c ∷ cs))) ts
+      → Tokens n (backslash ∷ c ∷ cs) (token_at n (backslash ∷ c ∷ cs) (A_word (letters_of (c ∷ cs))) ∷ ts)
   -- `\` before a space, a tab, a line end or the end; the gap after it gives no token
-  control_space : {cs : List ℕ} {ts : List Token} → makes_space cs ≡ true → Tokens n (after_gap cs) ts → Tokens n (92 ∷ cs) (token_at n (92 ∷ cs) (A_symbol 32) ∷ ts)
+  control_space : {cs : List ℕ} {ts : List Token}
+      → makes_space cs ≡ true
+      → Tokens n (after_gap cs) ts
+      → Tokens n (backslash ∷ cs) (token_at n (backslash ∷ cs) (A_symbol space) ∷ ts)
   -- `\` and any other character
-  symbol : {c : ℕ} {cs : List ℕ} {ts : List Token} → is_letter c ≡ false → makes_space (c ∷ cs) ≡ false → Tokens n cs ts → Tokens n (92 ∷ c ∷ cs) (token_at n (92 ∷ c ∷ cs) (A_symbol c) ∷ ts)
+  symbol : {c : ℕ} {cs : List ℕ} {ts : List Token}
+      → is_letter c ≡ false
+      → makes_space (c ∷ cs) ≡ false
+      → Tokens n cs ts
+      → Tokens n (backslash ∷ c ∷ cs) (token_at n (backslash ∷ c ∷ cs) (A_symbol c) ∷ ts)
   -- any other character
-  other : {c : ℕ} {cs : List ℕ} {ts : List Token} → is_blank c ≡ false → c ≢ 37 → c ≢ 92 → Tokens n cs ts → Tokens n (c ∷ cs) (token_at n (c ∷ cs) (single c) ∷ ts)
+  other : {c : ℕ} {cs : List ℕ} {ts : List Token}
+      → is_blank c ≡ false
+      → c ≢ percent
+      → c ≢ backslash
+      → Tokens n cs ts
+      → Tokens n (c ∷ cs) (token_at n (c ∷ cs) (single c) ∷ ts)

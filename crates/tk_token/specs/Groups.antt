@@ -1,8 +1,9 @@
--- Braces in lists of tokens.
-use Rattle.std.specs.Prelude.{ℕ, suc, ◌-◌, Bool, true, false, ◌&&◌, ◌==◌, if◌then◌else◌, List, [], ◌∷◌, Option, Some, None, option_map}
+-- Braces in lists of tokens, and what stands outside them.
+use Rattle.std.specs.Prelude.{ℕ, suc, ◌-◌, Bool, ◌&&◌, ◌==◌, if◌then◌else◌, List, [], ◌∷◌, drop, slice_get, Option, Some, None, option_map, option_and_then}
 use Rattle.tk_token.specs.declared.Kind.{Kind}
-use Rattle.tk_token.specs.declared.Kind.TheVariants.{Char, Open, Close}
+use Rattle.tk_token.specs.declared.Kind.TheVariants.{Open, Close}
 use Rattle.tk_token.specs.declared.Tok.{Tok}
+use Rattle.tk_token.specs.Kinds.{is_char, is_close, begins}
 
 -- the front of a list, and what is left of the list behind it
 pub record Cut : Type 0 where
@@ -15,17 +16,7 @@ cut front rest = record { front = front; rest = rest }
 
 -- a token stands before the front
 abbrev pub with_first : Tok → Option Cut → Option Cut
-with_first t c = option_map (λ (c : Cut). cut (t ∷ c.front) c.rest) c
-
--- that character
-abbrev pub is_sign : ℕ → Kind → Bool
-is_sign c (Char d) = d == c
-is_sign c _ = false
-
--- `}`
-abbrev pub is_close : Kind → Bool
-is_close Close = true
-is_close _ = false
+with_first t found = option_map (λ (c : Cut). cut (t ∷ c.front) c.rest) found
 
 -- how many braces are open after a token, where so many were open before it
 abbrev pub depth_after : ℕ → Kind → ℕ
@@ -33,18 +24,32 @@ depth_after depth Open = suc depth
 depth_after depth Close = depth - 1
 depth_after depth _ = depth
 
--- The tokens before the first wanted one outside braces, and those behind it, where so many braces are open.
--- There are none where the list ends before it, or a `}` comes before it that closes none of these tokens.
-unfoldable pub before_in : (Kind → Bool) → ℕ → List Tok → Option Cut
-before_in wanted depth [] = None
-before_in wanted depth (t ∷ ts) =
-    if depth == 0 && wanted t.kind then Some (cut [] ts)
-    else (if depth == 0 && is_close t.kind then None else with_first t (before_in wanted (depth_after depth t.kind) ts))
+-- The search outside braces, where so many braces are open: the tokens before the first place outside them at which the
+-- test holds of the tokens from there on, and those from there on. There is no such place where the list ends before it,
+-- or a `}` stands before it that closes none of these tokens.
+unfoldable pub first_outside_in : (List Tok → Bool) → ℕ → List Tok → Option Cut
+first_outside_in sought depth [] = None
+first_outside_in sought depth (t ∷ ts) =
+    if depth == 0 && sought (t ∷ ts) then Some (cut [] (t ∷ ts))
+    else (if depth == 0 && is_close t.kind then None
+    else with_first t (first_outside_in sought (depth_after depth t.kind) ts))
+
+-- the same from the first token on
+abbrev pub first_outside : (List Tok → Bool) → List Tok → Option Cut
+first_outside sought ts = first_outside_in sought 0 ts
+
+-- the same front, and the rest without its first token
+abbrev pub past_first : Option Cut → Option Cut
+past_first found = option_map (λ (c : Cut). cut c.front (drop 1 c.rest)) found
 
 -- the tokens before that character, at its first place outside braces, and those behind it
-abbrev pub before_sign : ℕ → List Tok → Option Cut
-before_sign c ts = before_in (is_sign c) 0 ts
+abbrev pub before_char : ℕ → List Tok → Option Cut
+before_char c ts = past_first (first_outside (begins (is_char c)) ts)
 
 -- the contents of a group whose `{` was read, and the tokens behind its `}`
 abbrev pub group_of : List Tok → Option Cut
-group_of ts = before_in is_close 0 ts
+group_of ts = past_first (first_outside (begins is_close) ts)
+
+-- the `}` that closes none of the tokens before it
+abbrev pub closer_of : List Tok → Option Tok
+closer_of ts = option_and_then (λ (c : Cut). slice_get c.rest 0) (first_outside (begins is_close) ts)

@@ -1,10 +1,14 @@
 pub mod Answers
+pub mod Characters
 pub mod Cutting
 pub mod Faults
-pub mod Fix
 pub mod Groups
+pub mod Kinds
 pub mod Pieces
 pub mod Places
+pub mod Recursion
 pub mod Refusals
+pub mod Sought
+pub mod Spaces
 pub mod Token
 pub mod Words

@@ -2,10 +2,11 @@
 use Rattle.std.specs.Prelude.{ℕ, ◌+◌, ◌==◌, Bool, List, length, take, count_by}
 use Rattle.std.specs.List.{after_last}
 use Rattle.std.specs.Str.{chars}
+use Rattle.tk_token.specs.Characters.{line_feed}
 
 -- a line ends with an LF
 abbrev pub is_line_end : ℕ → Bool
-is_line_end c = c == 10
+is_line_end c = c == line_feed
 
 -- the bytes of its line that stand before a place
 abbrev pub line_before : List ℕ → ℕ → List ℕ

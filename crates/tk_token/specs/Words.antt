@@ -36,13 +36,13 @@ unfoldable pub words_of : List Token → List (List ℕ)
 words_of ts = with_words [] ts
 
 -- the number of a word is its place in the list
-abbrev pub number_of : List (List ℕ) → List ℕ → ℕ
-number_of words word = position_or_len (bytes_eq word) words
+abbrev pub word_number : List (List ℕ) → List ℕ → ℕ
+word_number words word = position_or_len (bytes_eq word) words
 
 -- what a sign is, where words go by their numbers
 abbrev pub kind_of : List (List ℕ) → Sign → Kind
 kind_of words (A_char c) = Char c
-kind_of words (A_word word) = Word (number_of words word)
+kind_of words (A_word word) = Word (word_number words word)
 kind_of words (A_symbol c) = Symbol c
 kind_of words Opens = Open
 kind_of words Closes = Close

@@ -2,6 +2,8 @@
 #![tactic(auto)]
 
 mod faults;
+mod groups;
+mod kinds;
 mod laws;
 mod lexer;
 mod names;
@@ -9,9 +11,14 @@ mod positions;
 #[cfg(test)]
 mod tests;
 
+pub use groups::{
+    Sought, after_spaces, before_spaces, begins_char, closes_nothing, depth_after, first_outside,
+    trimmed,
+};
 pub use laws::{
-    a_source_lexes_in_one_way, a_source_without_fault_is_text, all_characters_have_tokens,
-    characters_have_one_list_of_tokens, each_source_lexes, what_stands_before_a_fault_is_text,
+    a_search_parts_the_list, a_source_lexes_in_one_way, a_source_without_fault_is_text,
+    all_characters_have_tokens, characters_have_one_list_of_tokens, each_source_lexes,
+    what_stands_before_a_fault_is_text, words_stand_once,
 };
 pub use lexer::{Lexed, lex};
 pub use names::Names;
