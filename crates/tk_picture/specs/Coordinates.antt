@@ -11,6 +11,8 @@ use Rattle.tk_token.specs.Spaces.{trimmed}
 use Rattle.tk_expand.specs.Unread.{Unread, unread}
 use Rattle.tk_expand.specs.Expand.{stream, full}
 use Rattle.tk_expand.specs.Reading.{place_of}
+use Rattle.tk_expr.specs.declared.FontUnits.{FontUnits}
+use Rattle.tk_expr.specs.Evaluates.{Evaluation}
 use Rattle.tk_expr.specs.Pairs.{paired, vector_of}
 use Rattle.tk_keys.specs.Given.{Given}
 use Rattle.tk_picture.specs.Configurations.{Configuration, with_stream, Lookahead, place_ahead, must_be}
@@ -28,22 +30,22 @@ pub record Reached : Type 0 where
 abbrev pub break_of : Unread → ℕ
 break_of list = place_of list.end (closer_of list.rest)
 
-module _ (given : Given) where
-  -- The point of a coordinate's text in numbers, whose `(` stands at that place. A number without a unit counts
-  -- centimetres: `1,2pt` is (1cm,2pt). A coordinate of another form isn't built.
-  unfoldable pub point_of : ℕ → List Tok → Answer Point
-  point_of at text = if is_some (first_outside begins_corner text) then fault Unbuilt at else do
-    pair ← paired given.evaluate given.font at text
-    numbers ← or_fault pair Unbuilt at
-    vector_of centimetre centimetre at numbers
+-- The point of a coordinate's text in numbers, whose `(` stands at that place. A number without a unit counts
+-- centimetres: `1,2pt` is (1cm,2pt). A coordinate of another form isn't built.
+unfoldable pub point_of : Evaluation → FontUnits → ℕ → List Tok → Answer Point
+point_of ev font at text = if is_some (first_outside begins_corner text) then fault Unbuilt at else do
+  pair ← paired ev font at text
+  numbers ← or_fault pair Unbuilt at
+  vector_of centimetre centimetre at numbers
 
+module _ (given : Given) where
   -- A coordinate whose `(` was read at that place. Its text goes, as it is written, to the first `)` outside braces,
   -- and is then expanded; where there is no such `)`, the coordinate isn't built.
   unfoldable pub coordinate : ℕ → Configuration → Answer Reached
   coordinate at c = do
     written ← or_fault (before_char right_parenthesis c.list.rest) Unbuilt (break_of c.list)
     text ← full given.budget c.env.macros (stream c.picture.units (unread written.front at))
-    point ← point_of at (trimmed text.list.rest)
+    point ← point_of given.evaluate given.font at (trimmed text.list.rest)
     Ok (record { point = point; behind = with_stream c (stream text.units (unread written.rest c.list.end)) })
 
   -- a coordinate that begins with a token which was taken

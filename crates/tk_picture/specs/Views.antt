@@ -1,16 +1,18 @@
 -- What the code holds, as the definitions see it. Only the code's own contracts use this.
-use Rattle.std.specs.Prelude.{◌≡◌, ℕ, List, Result, Ok, Err, IfSome, Option}
+use Rattle.std.specs.Prelude.{◌≡◌, ℕ, List, Option, Ok, IfSome}
 use Rattle.std.specs.List.{AllByRecursion}
+use Rattle.tk_item.specs.declared.Point.{Point}
 use Rattle.tk_item.specs.declared.Seg.{Seg}
 use Rattle.tk_item.specs.Frame.{IsProper}
 use Rattle.tk_svg.specs.Fitting.{FitsItem, IsPath}
-use Rattle.tk_token.specs.declared.Fault.{Fault}
 use Rattle.tk_token.specs.declared.Tok.{Tok}
-use Rattle.tk_token.specs.Answers.{Answer}
-use Rattle.tk_expand.specs.Unread.{Unread}
+use Rattle.tk_token.specs.Answers.{Answer, ◌>>=◌}
+use Rattle.tk_token.specs.Spaces.{trimmed}
+use Rattle.tk_expand.specs.Unread.{Unread, unread}
+use Rattle.tk_expand.specs.Expand.{stream, full}
 use Rattle.tk_expr.specs.Evaluated.{evaluated}
 use Rattle.tk_keys.specs.Given.{Given}
-use Rattle.tk_keys.specs.State.{env_of, given_of, Keeps}
+use Rattle.tk_keys.specs.State.{env_of, given_of}
 use Rattle.tk_picture.specs.declared.drawer.Drawer.{Drawer}
 use Rattle.tk_picture.specs.declared.drawer.Flow as code_flow
 use Rattle.tk_picture.specs.declared.drawer.Flow.TheVariants as flows
@@ -21,12 +23,8 @@ use Rattle.tk_picture.specs.declared.commands.Beginning.TheVariants as beginning
 use Rattle.tk_picture.specs.Flow.{Flow, Goes_on, Ends}
 use Rattle.tk_picture.specs.Pictures.{Picture}
 use Rattle.tk_picture.specs.Configurations.{Configuration, configuration, Progress, progress, Lookahead, lookahead}
+use Rattle.tk_picture.specs.Coordinates.{Reached, point_of}
 use Rattle.tk_picture.specs.Commands.{Opener, A_picture, A_group, Beginning, Begins_path, Opens_group, Closes_group, Ends_environment, Begins_other}
-
--- what a call without memory gave, seen by view, is the definition's answer
-abbrev pub Tells : {X Y : Type 0} → (X → Y) → Result X Fault → Answer Y → Type 0
-Tells view (Ok x) answer = answer ≡ Ok (view x)
-Tells view (Err e) answer = answer ≡ Err e
 
 -- what is given for the run
 abbrev pub given_to : Drawer → Given
@@ -72,8 +70,22 @@ pub record IsSound (d : Drawer) : Type 0 where
   pub paths : AllByRecursion IsPath d.items
   pub proper : IfSome d.frame IsProper
 
--- what is drawn stays, and so does what was given and the levels further out
-pub record KeepsDrawing (old new : Drawer) : Type 0 where
-  pub state : Keeps old.state new.state
-  pub items : new.items ≡ old.items
-  pub frame : new.frame ≡ old.frame
+-- nothing but the units paid is another
+abbrev pub OnlyPays : Drawer → Drawer → Type 0
+OnlyPays old new = new ≡ record old { state = record old.state { units = new.state.units } }
+
+-- a point that was read
+abbrev pub reached_of : Point → Drawer → List Seg → Unread → Reached
+reached_of point d segs list = record { point = point; behind = configuration_of d segs list }
+
+-- the point of a coordinate's text as it is written, and the units paid then
+abbrev pub written_point : Drawer → List Tok → ℕ → Answer (Point × ℕ)
+written_point d written at = do
+  text ← full d.state.budget d.state.levels.top.macros (stream d.state.units (unread written at))
+  point ← point_of evaluated d.state.font at (trimmed text.list.rest)
+  Ok (point, text.units)
+
+-- what was given stays, and so do the levels further out
+pub record Keeps (old new : Drawer) : Type 0 where
+  pub given : given_to new ≡ given_to old
+  pub outer : new.state.levels.outer ≡ old.state.levels.outer

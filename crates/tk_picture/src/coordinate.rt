@@ -5,18 +5,19 @@ ghost use Rattle.tk_item.specs.declared.Seg.{Seg as ASeg};
 ghost use Rattle.tk_token.specs.declared.Code.TheVariants.{Unbuilt};
 ghost use Rattle.tk_token.specs.Answers.{or_fault};
 ghost use Rattle.tk_token.specs.Characters.{right_parenthesis};
-ghost use Rattle.tk_token.specs.Groups.{cut, before_char, closer_of};
+ghost use Rattle.tk_token.specs.Groups.{cut, before_char};
 ghost use Rattle.tk_token.specs.Refusals.{Gives};
+ghost use Rattle.tk_expand.specs.Tells.{Tells};
+ghost use Rattle.tk_expr.specs.Evaluated.{evaluated};
 ghost use Rattle.tk_picture.specs.Coordinates.{break_of, point_of, coordinate, point};
-ghost use Rattle.tk_picture.specs.Views.{given_to, configuration_of, lookahead_of, reached_of, OnlyPays, Tells};
+ghost use Rattle.tk_picture.specs.Views.{given_to, configuration_of, lookahead_of, reached_of, written_point, OnlyPays};
 
-use crate::drawer::{Drawer, expect, place, unbuilt};
+use crate::drawer::{Drawer, scaled, unbuilt};
 use std::alloc::{AllocError, Global};
 use tk_expand::Input;
 use tk_expr::{FontUnits, pair, vector};
 use tk_item::Point;
-use tk_num::Scaled;
-use tk_token::{Fault, Refusal, Sought, Tok, first_outside, trimmed};
+use tk_token::{Code, Fault, Refusal, Sought, Tok, first_outside, trimmed};
 
 /// One centimetre in scaled points.
 const CENTIMETRE: i64 = 1_864_679;
@@ -33,8 +34,8 @@ impl Drawer {
             (point (given_to self.old) (lookahead_of first self.old segs input.old)) }
         ensures pays { OnOk result (OnlyPays self.old self.new) }
     {
-        expect(input, first, '(')?;
-        self.coordinate(input, place(input, first))
+        input.expect(Code::Unbuilt, first, '(')?;
+        self.coordinate(input, input.place(first))
     }
 
     /// Reads a coordinate, whose `(` was taken at that place.
@@ -45,6 +46,61 @@ impl Drawer {
         ensures pays { OnOk result (OnlyPays self.old self.new) }
     {
         let written = written_text(self.state.allocator(), input)?;
-        self.point_of(&written, at)
+        self.expanded_point(&written, at)
     }
+
+    /// The point of a coordinate's text as it is written, which is expanded where a token of it calls a macro.
+    fn expanded_point(&mut self, written: &[Tok], at: u32) -> Result<Point, Refusal>
+        ensures gives { Gives (λ point. (point, self.new.state.units)) result (written_point self.old written.now at) }
+        ensures pays { OnlyPays self.old self.new }
+    {
+        let font = self.state.font_units();
+        if self.state.is_expanded(written) {
+            return Ok(point_of(trimmed(written), font, at)?);
+        }
+        let text = self.state.expand(written)?;
+        Ok(point_of(trimmed(&text), font, at)?)
+    }
+}
+
+/// Takes the text of a coordinate, as it is written, and its `)`.
+fn written_text(alloc: Global, input: &mut Input) -> Result<Vec<Tok>, Refusal>
+    ensures gives { Gives (λ text. cut text.items input.new.rest) result
+        (or_fault (before_char right_parenthesis input.old.rest) Unbuilt (break_of input.old)) }
+    ensures end { OnOk result (input.new.end ≡ input.old.end) }
+{
+    match input.until(')')? {
+        Some(text) => Ok(text),
+        None => Err(unbuilt(break_of(alloc, input)?).into()),
+    }
+}
+
+/// Where the text of a coordinate breaks off that has no `)`.
+fn break_of(alloc: Global, input: &mut Input) -> Result<u32, AllocError>
+    ensures { IfOk result (λ at. at ≡ break_of input.old) }
+{
+    let mut open = Vec::new(alloc);
+    while let Some(tok) = input.raw() {
+        if tok.kind.is_open() {
+            open.push(tok)?;
+        } else if tok.kind.is_close() && open.pop().is_none() {
+            return Ok(tok.at);
+        }
+    }
+    Ok(input.end())
+}
+
+/// The point of a coordinate's text in numbers, whose `(` stands at that place. A number without a unit counts centimetres.
+#[tactic(auto, unfolding(crate::specs::Coordinates::point_of))]
+fn point_of(text: &[Tok], font: FontUnits, at: u32) -> Result<Point, Fault>
+    ensures { Tells (λ point. point) result (point_of evaluated font at text.now) }
+{
+    if first_outside(text, Sought::Corner).is_some() {
+        return Err(unbuilt(at));
+    }
+    let Some(numbers) = pair(text, font, at)? else {
+        return Err(unbuilt(at));
+    };
+    let centimetre = scaled(CENTIMETRE);
+    vector(numbers, centimetre, centimetre, at)
 }

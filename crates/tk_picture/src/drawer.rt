@@ -1,16 +1,14 @@
 //! A picture as it is drawn, and what stands next in its list.
 
-ghost use Rattle.std.specs.Prelude.{◌≡◌, List, IfErr, OnErr, OnOk, IfSome, true, false};
-ghost use Rattle.std.specs.List.{AllByRecursion};
+ghost use Rattle.std.specs.Prelude.{◌≡◌, List, OnOk};
 ghost use Rattle.tk_item.specs.declared.Seg.{Seg as ASeg};
-ghost use Rattle.tk_item.specs.Frame.{IsProper};
-ghost use Rattle.tk_svg.specs.Fitting.{FitsItem, IsPath, BeginsWithMove};
+ghost use Rattle.tk_num.specs.Number.{IsScaled};
+ghost use Rattle.tk_svg.specs.Fitting.{BeginsWithMove};
 ghost use Rattle.tk_token.specs.Kinds.{is_char};
 ghost use Rattle.tk_token.specs.Refusals.{Gives};
-ghost use Rattle.tk_expand.specs.Reading.{is_there, place_of};
-ghost use Rattle.tk_picture.specs.Configurations.{ahead_of, behind_next, behind_letters, must_be};
+ghost use Rattle.tk_picture.specs.Configurations.{ahead_of, behind_next, behind_letters};
 ghost use Rattle.tk_picture.specs.Pictures.{first_pen, drawn_by};
-ghost use Rattle.tk_picture.specs.Views.{given_to, picture_of, configuration_of, lookahead_of, OnlyPays, IsSound, Tells};
+ghost use Rattle.tk_picture.specs.Views.{given_to, picture_of, configuration_of, lookahead_of, OnlyPays, IsSound};
 
 use std::alloc::AllocError;
 use tk_expand::Input;
@@ -89,39 +87,6 @@ impl Drawer {
     }
 }
 
-/// Whether a token is there and is that character.
-pub(crate) fn is_there(first: Option<Tok>, wanted: char) -> bool
-    ensures { result ≡ is_there (is_char wanted) first }
-{
-    match first {
-        Some(tok) => tok.kind.is_char(wanted),
-        None => false,
-    }
-}
-
-/// Where a token stands that was taken, or where the list runs out.
-pub(crate) fn place(input: &Input, first: Option<Tok>) -> u32
-    ensures { result ≡ place_of input.now.end first }
-{
-    match first {
-        Some(tok) => tok.at,
-        None => input.end(),
-    }
-}
-
-/// Asks that a token that was taken is that character.
-pub(crate) fn expect(input: &Input, first: Option<Tok>, wanted: char) -> Result<(), Fault>
-    ensures ok { OnOk result (is_there (is_char wanted) first ≡ true) }
-    ensures missed { OnErr result (is_there (is_char wanted) first ≡ false) }
-    ensures fault { IfErr result (λ fault. fault ≡ record { code = Code.Unbuilt; at = place_of input.now.end first }) }
-{
-    if is_there(first, wanted) {
-        Ok(())
-    } else {
-        Err(unbuilt(place(input, first)))
-    }
-}
-
 /// The fault of a form that isn't built.
 pub(crate) fn unbuilt(at: u32) -> Fault
     ensures { result ≡ record { code = Code.Unbuilt; at = at } }
@@ -144,5 +109,16 @@ fn first_pen() -> Stroke
         miter: scaled(MITER_LIMIT),
         dash: Dashes::new(),
         phase: scaled(0),
+    }
+}
+
+/// The number of so many 65536ths, which are in range.
+pub(crate) fn scaled(sp: i64) -> Scaled
+    requires { IsScaled sp }
+    ensures { result ≡ sp }
+{
+    match Scaled::new(sp) {
+        Some(number) => number,
+        None => unreachable!(),
     }
 }

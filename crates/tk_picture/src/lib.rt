@@ -11,8 +11,8 @@ mod picture;
 mod tests;
 
 pub use laws::{
-    a_source_has_one_outcome, commands_are_their_step, commands_meet_no_bound,
-    each_source_has_an_outcome, operations_are_their_step, operations_meet_no_bound,
+    a_source_has_one_outcome, commands_are_never_stuck, commands_are_their_step,
+    each_source_has_an_outcome, operations_are_never_stuck, operations_are_their_step,
 };
 pub use picture::compile;
 use tk_item::Drawing;

@@ -6,10 +6,10 @@ ghost use Rattle.tk_token.specs.Refusals.{Gives};
 ghost use Rattle.tk_picture.specs.Paths.{PathOpener, stretch, path_end, line, cycle, operation, path_part, operations, path};
 ghost use Rattle.tk_picture.specs.Views.{given_to, configuration_of, progress_of, lookahead_of, flow_of, OnlyPays};
 
-use crate::drawer::{Drawer, Flow, expect, is_there};
-use tk_expand::Input;
+use crate::drawer::{Drawer, Flow};
+use tk_expand::{Input, is_there};
 use tk_item::{Seg, Segs};
-use tk_token::{Refusal, Tok};
+use tk_token::{Code, Refusal, Tok};
 
 impl Drawer {
     /// Puts the pieces of a path into `segs`, from behind its command to its `;`.
@@ -65,7 +65,7 @@ impl Drawer {
         ensures { Gives (flow_of self.now segs.now input.now) result
             (path_end (lookahead_of first self.now segs.now input.now)) }
     {
-        expect(input, first, ';')?;
+        input.expect(Code::Unbuilt, first, ';')?;
         Ok(Flow::Ends)
     }
 
@@ -83,7 +83,7 @@ impl Drawer {
         ensures pays { OnOk result (OnlyPays self.old self.new) }
         ensures begins { OnOk result (BeginsWithMove segs.new) }
     {
-        expect(input, first, '-')?;
+        input.expect(Code::Unbuilt, first, '-')?;
         self.expect_next(input, '-')?;
         let target = self.ahead(input)?;
         if is_there(target, 'c') {

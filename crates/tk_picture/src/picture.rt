@@ -1,29 +1,37 @@
-//! Pictures and documents.
+//! Whole sources.
 
-ghost use Rattle.std.specs.Prelude.{◌≡◌, ◌≤◌, ◌+◌, ◌*◌, List, Ok, Err, length, map, take, IfOk, IfErr, OnOk, IfSome, IsUtf8, codes, unwrap_or};
-ghost use Rattle.std.specs.List.{All, AllByRecursion};
+ghost use Rattle.std.specs.Prelude.{◌≡◌, ◌≤◌, [], List, Ok, Err, length, take, IfOk, IfErr, OnOk, IfSome, codes, unwrap_or};
+ghost use Rattle.std.specs.List.{AllByRecursion};
+ghost use Rattle.std.specs.Str.{IsUtf8};
 ghost use Rattle.tk_item.specs.Frame.{IsProper};
-ghost use Rattle.tk_svg.specs.Fitting.{Fits, FitsItem, IsPath};
+ghost use Rattle.tk_svg.specs.Fitting.{Fits, IsPath};
 ghost use Rattle.tk_token.specs.Refusals.{Gives, OnFault};
-ghost use Rattle.tk_expand.specs.Arguments.{after_spaces};
+ghost use Rattle.tk_token.specs.Spaces.{after_spaces};
+ghost use Rattle.tk_expand.specs.Tells.{Tells};
 ghost use Rattle.tk_picture.specs.declared.Compiled.{Compiled as ACompiled};
-ghost use Rattle.tk_picture.specs.Outcome.{IsOutcome};
-ghost use Rattle.tk_picture.specs.Commands.{here, first_env, first_state, no_frame, compiled, nothing_after, document};
-ghost use Rattle.tk_picture.specs.Reading.{Tells, run_of, here_of, state_of, IsSound};
+ghost use Rattle.tk_picture.specs.Documents.{is_word, no_frame, compiled, nothing_after, picture_behind, document};
+ghost use Rattle.tk_picture.specs.Outcome.{IsOutcome, font_units};
+ghost use Rattle.tk_picture.specs.Views.{given_to, picture_of, IsSound, IsNew};
 
 use crate::Compiled;
-use crate::commands::{Opener, Picture};
-use crate::coordinate::scaled;
-use crate::run::{Feed, Run};
-use crate::source::solid;
+use crate::commands::Opener;
+use crate::drawer::{Drawer, scaled, unbuilt};
 use std::alloc::{AllocError, Global};
-use tk_expand::{Input, Units};
+use tk_expand::Input;
+use tk_expr::FontUnits;
 use tk_item::{Drawing, Frame, Items, Text};
-use tk_store::{Body, Store};
-use tk_token::{Fault, Lexed, Refusal, lex};
+use tk_keys::State;
+use tk_store::Body;
+use tk_token::{Code, Fault, Kind, Lexed, Refusal, Tok, lex};
 
 /// A font size of 10pt.
 const FONT_SIZE: i64 = 10 * 65_536;
+
+/// An em of that font, in scaled points.
+const EM: i64 = 655_360;
+
+/// An ex of that font, 4.3pt.
+const EX: i64 = 281_805;
 
 /// The drawing of a source, and the units that it costs: `\begin{tikzpicture}`, commands and `\end{tikzpicture}`. The
 /// commands are paths of straight lines between coordinates, the definitions of macros, and groups. It takes time and
@@ -54,80 +62,81 @@ pub fn compile(alloc: Global, source: &[u8], budget: u64) -> Result<Compiled, Re
     ensures text { IfErr result (λ e. OnFault e (λ f. IsUtf8 (take f.at source.now))) }
 {
     let Lexed { toks, names } = lex(alloc, source)?;
-    let run = Run {
-        alloc,
-        names: &names,
-        end: source.len() as u32,
-        budget,
+    let mut input = Input::new(alloc, Body::from_vec(toks)?, source.len() as u32)?;
+    let mut drawer = Drawer {
+        state: State::new(alloc, names, font_units(), budget)?,
+        items: Items::new(alloc),
+        frame: None,
     };
-    run.document(Body::from_vec(toks)?)
+    drawer.document(&mut input)?;
+    Ok(compiled(alloc, drawer)?)
 }
 
-impl Run<'_> {
-    /// The drawing of a source's tokens.
-    #[tactic(auto, unfolding(crate::specs::Commands::document))]
-    fn document(&self, toks: Body) -> Result<Compiled, Refusal>
-        ensures gives { Gives (λ c. c) result (document (run_of self.now) toks) }
-        ensures fits { IfOk result (λ c. Fits c.drawing) }
-        ensures paths { IfOk result (λ c. AllByRecursion IsPath c.drawing.items) }
+impl Drawer {
+    /// Draws the picture of a whole source.
+    #[tactic(auto, unfolding(crate::specs::Documents::document))]
+    fn document(&mut self, input: &mut Input) -> Result<(), Refusal>
+        requires { IsNew self.old }
+        ensures gives { Gives (λ _. compiled (picture_of self.new [])) result (document (given_to self.old) input.old) }
+        ensures sound { OnOk result (IsSound self.new) }
     {
-        let mut input = Input::new(self.alloc, toks, self.end)?;
-        self.expect_word(&mut input, "begin")?;
-        self.expect_name(&mut input)?;
-        let mut picture = self.begun(input)?;
-        self.commands(&mut picture, Opener::Picture)?;
-        self.expect_nothing(&mut picture.feed.input)?;
-        Ok(compiled(self.alloc, picture)?)
+        input.skip_spaces();
+        let begin = input.token(Code::Unbuilt)?;
+        if !self.is_word(begin.kind, "begin") {
+            return Err(unbuilt(begin.at).into());
+        }
+        self.picture(input, begin.at)
     }
 
-    /// A picture in which nothing is drawn and only its own level is open.
-    fn begun(&self, input: Input) -> Result<Picture, AllocError>
-        requires { input.end ≡ self.now.end }
-        ensures place { IfOk result (λ picture. here_of picture ≡ here first_env first_state input.rest) }
-        ensures sound { IfOk result (λ picture. IsSound self.now picture) }
+    /// Draws the picture behind a `\begin` at that place, with nothing behind it.
+    #[tactic(auto, unfolding(crate::specs::Documents::picture_behind))]
+    fn picture(&mut self, input: &mut Input, at: u32) -> Result<(), Refusal>
+        requires { IsNew self.old }
+        ensures gives { Gives (λ _. compiled (picture_of self.new [])) result (picture_behind (given_to self.old) at input.old) }
+        ensures sound { OnOk result (IsSound self.new) }
     {
-        let mut store = Store::new(self.alloc)?;
-        store.open()?;
-        Ok(Picture {
-            store,
-            feed: Feed {
-                input,
-                units: Units {
-                    used: 0,
-                    budget: self.budget,
-                },
+        input.expect_name(Code::Unbuilt, b"tikzpicture")?;
+        self.state.open(at)?;
+        self.commands(input, Opener::Picture(at))?;
+        Ok(expect_nothing(input)?)
+    }
+
+    /// Whether a token is that control word.
+    fn is_word(&self, kind: Kind, wanted: &str) -> bool
+        ensures { result ≡ is_word self.now.state.names wanted.now kind }
+    {
+        match kind {
+            Kind::Word(n) => match self.state.names().word(n) {
+                Some(word) => word == wanted,
+                None => wanted.is_empty(),
             },
-            items: Items::new(self.alloc),
-            frame: None,
-        })
+            _ => false,
+        }
     }
+}
 
-    /// Asks that only Spaces are left.
-    fn expect_nothing(&self, input: &mut Input) -> Result<(), Fault>
-        ensures { (c : ACompiled) → Tells (λ _. c) result (nothing_after self.now.end c (after_spaces input.old.rest)) }
-    {
-        let first = solid(input);
-        self.require(first, first.is_none())
+/// Asks that nothing is left but Spaces.
+fn expect_nothing(input: &mut Input) -> Result<(), Fault>
+    ensures { (c : ACompiled) → Tells (λ _. c) result (nothing_after c (after_spaces input.old.rest)) }
+{
+    input.skip_spaces();
+    match input.raw() {
+        Some(tok) => Err(unbuilt(tok.at)),
+        None => Ok(()),
     }
 }
 
 /// What a picture has drawn and paid.
 #[tactic(auto, using(crate::proofs::Fitting::fits))]
-fn compiled(alloc: Global, picture: Picture) -> Result<Compiled, AllocError>
-    requires items { AllByRecursion FitsItem picture.items }
-    requires paths { AllByRecursion IsPath picture.items }
-    requires proper { IfSome picture.frame IsProper }
-    ensures compiled { IfOk result (λ c. c ≡ compiled (state_of picture)) }
+fn compiled(alloc: Global, drawer: Drawer) -> Result<Compiled, AllocError>
+    requires { IsSound drawer }
+    ensures compiled { IfOk result (λ c. c ≡ compiled (picture_of drawer [])) }
     ensures fits { IfOk result (λ c. Fits c.drawing) }
     ensures paths { IfOk result (λ c. AllByRecursion IsPath c.drawing.items) }
 {
     let family = family(alloc)?;
-    let Picture {
-        feed,
-        items,
-        frame,
-        ..
-    } = picture;
+    let units = drawer.state.used();
+    let Drawer { items, frame, .. } = drawer;
     Ok(Compiled {
         drawing: Drawing {
             frame: whole_frame(frame),
@@ -135,7 +144,7 @@ fn compiled(alloc: Global, picture: Picture) -> Result<Compiled, AllocError>
             size: scaled(FONT_SIZE),
             items,
         },
-        units: feed.units.used,
+        units,
     })
 }
 
@@ -148,6 +157,16 @@ fn family(alloc: Global) -> Result<Text, AllocError>
         text.push(char::from(*byte))?;
     }
     Ok(text)
+}
+
+/// The units of the font.
+fn font_units() -> FontUnits
+    ensures { result ≡ font_units }
+{
+    FontUnits {
+        em: scaled(EM),
+        ex: scaled(EX),
+    }
 }
 
 /// The frame of a drawing, which is all 0 where nothing was drawn.

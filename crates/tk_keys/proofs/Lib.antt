@@ -1,0 +1,5 @@
+pub mod Defining
+pub mod Reading
+pub mod Setting
+pub mod Standing
+pub mod Words

@@ -1,0 +1,128 @@
+-- How a run moves along coordinates and paths.
+use Rattle.std.specs.Prelude.{◌≡◌, ℕ, zero, suc, ◌+◌, ◌-◌, ◌<◌, ◌≤◌, Bool, true, false, if◌then◌else◌, is_some, List, [], ◌∷◌, length, take, Option, Some, None, Ok, Err, IfOk, IfSome, codes}
+use Rattle.std.specs.List.{suffix_len}
+use Rattle.std.proofs.Common.{sym, subst, ap, ◌∙◌, arith}
+use Rattle.tk_item.specs.declared.Point.{Point}
+use Rattle.tk_item.specs.declared.Seg.TheVariants.{Move, Line, Close}
+use Rattle.tk_token.specs.declared.Code.TheVariants.{Budget, Unbuilt}
+use Rattle.tk_token.specs.declared.Tok.{Tok}
+use Rattle.tk_token.specs.Answers.{Answer, ◌>>=◌, fault, or_fault}
+use Rattle.tk_token.specs.Characters.{dash, semicolon, left_parenthesis, right_parenthesis}
+use Rattle.tk_token.specs.Groups.{Cut, first_outside, before_char, closer_of}
+use Rattle.tk_token.specs.Kinds.{is_char, begins_corner}
+use Rattle.tk_token.specs.Spaces.{is_space_token, after_spaces, before_spaces, trimmed}
+use Rattle.tk_token.proofs.Answering.{then_alike}
+use Rattle.tk_token.proofs.Fixpoint.{kept}
+use Rattle.tk_expand.specs.Unread.{Unread, unread}
+use Rattle.tk_expand.specs.Expand.{Stream, stream, full}
+use Rattle.tk_expand.specs.Reading.{is_there, place_of}
+use Rattle.tk_expand.proofs.Falling.{Falls, LessLeft, less_then}
+use Rattle.tk_expand.proofs.Places.{StandAt, Stands, StreamAt, CutAt, full_at}
+use Rattle.tk_expr.specs.declared.FontUnits.{FontUnits}
+use Rattle.tk_expr.specs.Evaluates.{Evaluation, IsEvaluation}
+use Rattle.tk_expr.specs.Pairs.{paired, vector_of}
+use Rattle.tk_keys.specs.Given.{Given}
+use Rattle.tk_picture.specs.Configurations.{Configuration, Progress, stream_at, Lookahead, place_ahead, must_be, ahead_of, behind_next, behind_letters}
+use Rattle.tk_picture.specs.Coordinates.{centimetre, Reached, break_of, point_of, coordinate, point}
+use Rattle.tk_picture.specs.Flow.{Flow, Goes_on, Ends, go_on}
+use Rattle.tk_picture.specs.Paths.{Stretch, stretch, PathOpener, A_path, PathFlow, drawn_with, letter_c, path_end, line, cycle, operation, path_part, operations_step, stretch_work, operations, path}
+use Rattle.tk_keys.proofs.Reading.{place_at, spaces_at}
+use Rattle.tk_picture.proofs.Moving.{At, Comes, Advances, Looks, Returns, comes, advances_then, then_advances, then_returns, then_looks, looked, must_at, ahead_at, next_at, letters_at}
+use Rattle.tk_picture.proofs.Pinned.{IsPinned, is_its_step, is_never_stuck}
+use Rattle.tk_keys.proofs.Standing.{then_at, if_at, both_at, weaker_at, only_fault, or_at, ok_at}
+
+-- an evaluation whose faults stand within the text
+abbrev pub EvaluatesAt : (ℕ → Type 0) → Given → Type 0
+EvaluatesAt P given = (at : ℕ) (ts : List Tok) → P at → StandAt P ts → Stands P (λ _. Unit {0}) (point_of given.evaluate given.font at ts)
+
+module _ (P : ℕ → Type 0) (given : Given) (begin : P 0) (evaluates : EvaluatesAt P given) where
+  -- ---- coordinates
+
+  taken_at : (k : ℕ) (ts : List Tok) → StandAt P ts → StandAt P (take k ts)
+  taken_at zero ts h = tt
+  taken_at (suc k) [] h = tt
+  taken_at (suc k) (t ∷ ts) h = (h.0, taken_at k ts h.1)
+
+  trimmed_at : (ts : List Tok) → StandAt P ts → StandAt P (trimmed ts)
+  unfolding before_spaces
+  trimmed_at ts h = taken_at (length (after_spaces ts) - suffix_len is_space_token (after_spaces ts)) (after_spaces ts) (spaces_at P ts h)
+
+  -- a point was reached, and no work was added
+  abbrev pub Reaches : Configuration → Reached → Type 0
+  Reaches c r = Comes P given c r.behind
+
+  coordinate_at : (at : ℕ) (c : Configuration) → P at → At P given c → Stands P (Reaches c) (coordinate given at c)
+  unfolding coordinate
+  coordinate_at at c p h = ?
+
+  point_at : (c : Configuration) (ahead : Lookahead) → Looks P given c ahead → Stands P (λ (r : Reached). Advances P given c r.behind) (point given ahead)
+  unfolding point
+  point_at c ahead h =
+      then_at P (Advances P given c) (λ (r : Reached). Advances P given c r.behind) (must_be (is_char left_parenthesis) ahead) _ (must_at P given (is_char left_parenthesis) c ahead h) (λ d a.
+      weaker_at P (Reaches d) (λ (r : Reached). Advances P given c r.behind) (coordinate given (place_ahead ahead) d) (λ r b. advances_then P given c d r.behind a b) (coordinate_at (place_ahead ahead) d (place_at P ahead.behind.list.end ahead.token h.token h.at.end) a.at))
+
+  -- ---- paths
+
+  -- a part of a path leaves less
+  abbrev pub PartAt : Configuration → PathFlow → Type 0
+  PartAt c (Goes_on d) = Advances P given c d
+  PartAt c (Ends p) = Returns P given c p
+
+  end_at : (c : Configuration) (ahead : Lookahead) → Looks P given c ahead → Stands P (PartAt c) (path_end ahead)
+  unfolding path_end
+  end_at c ahead h = then_at P (Advances P given c) (PartAt c) (must_be (is_char semicolon) ahead) _ (must_at P given (is_char semicolon) c ahead h) (λ d a.
+      let b = comes P given c d a in record { fell = b.fell; rest = b.at.rest; end = b.at.end })
+
+  line_at : (c : Configuration) (ahead : Lookahead) → Looks P given c ahead → Stands P (PartAt c) (line given ahead)
+  unfolding line
+  line_at c ahead h = then_at P (λ (r : Reached). Advances P given c r.behind) (PartAt c) (point given ahead) _ (point_at c ahead h) (λ r a.
+      record { less = a.less; at = record { bodies = a.at.bodies; rest = a.at.rest; end = a.at.end } })
+
+  part_further : (c d : Configuration) (part : PathFlow) → Comes P given c d → PartAt d part → PartAt c part
+  part_further c d (Goes_on e) a b = then_advances P given c d e a b
+  part_further c d (Ends p) a b = then_returns P given c d p a b
+
+  cycle_at : (c : Configuration) → At P given c → Stands P (PartAt c) (cycle given c)
+  unfolding cycle
+  cycle_at c h =
+      then_at P (Comes P given c) (PartAt c) (behind_letters given (codes "ycle") c) _ (letters_at P given begin (codes "ycle") c h) (λ d a.
+      then_at P (Looks P given (drawn_with Close d)) (PartAt c) (ahead_of given (drawn_with Close d)) _ (ahead_at P given begin (drawn_with Close d) (record { bodies = a.at.bodies; rest = a.at.rest; end = a.at.end })) (λ last b.
+      weaker_at P (PartAt (drawn_with Close d)) (PartAt c) (path_end last) (λ part k. part_further c (drawn_with Close d) part (record { fell = a.fell; at = record { bodies = a.at.bodies; rest = a.at.rest; end = a.at.end } }) k) (end_at (drawn_with Close d) last b)))
+
+  operation_at : (c : Configuration) (ahead : Lookahead) → Looks P given c ahead → Stands P (PartAt c) (operation given ahead)
+  unfolding operation
+  operation_at c ahead h =
+      then_at P (Advances P given c) (PartAt c) (must_be (is_char dash) ahead) _ (must_at P given (is_char dash) c ahead h) (λ one a.
+      then_at P (Advances P given one) (PartAt c) (behind_next given (is_char dash) one) _ (next_at P given begin (is_char dash) one a.at) (λ both b.
+      then_at P (Looks P given both) (PartAt c) (ahead_of given both) _ (ahead_at P given begin both b.at) (λ target d.
+      let far = comes P given c both (advances_then P given c one both a (comes P given one both b)) in
+      if_at P (PartAt c) (is_there (is_char letter_c) target.token) (cycle given target.behind) (line given target)
+      (weaker_at P (PartAt target.behind) (PartAt c) (cycle given target.behind) (λ part k. part_further c both part far (part_further both target.behind part (looked P given both target d) k)) (cycle_at target.behind d.at))
+      (weaker_at P (PartAt both) (PartAt c) (line given target) (λ part k. part_further c both part far k) (line_at both target d)))))
+
+  pub part_at : (c : Configuration) → At P given c → Stands P (PartAt c) (path_part given c)
+  unfolding path_part
+  part_at c h =
+      then_at P (Looks P given c) (PartAt c) (ahead_of given c) _ (ahead_at P given begin c h) (λ first a.
+      if_at P (PartAt c) (is_there (is_char semicolon) first.token) (path_end first) (operation given first) (end_at c first a) (operation_at c first a))
+
+  -- ---- all operations
+
+  follows : (rec : Stretch → Answer Progress) → ((s : Stretch) → At P given s.start → Stands P (Returns P given s.start) (rec s)) → (opener : PathOpener) (c : Configuration) (part : PathFlow) → PartAt c part → Stands P (Returns P given c) (go_on (λ next. rec (stretch opener next)) part)
+  follows rec h opener c (Goes_on d) a =
+      weaker_at P (Returns P given d) (Returns P given c) (rec (stretch opener d)) (λ p b. then_returns P given c d p (comes P given c d a) b) (h (stretch opener d) a.at)
+  follows rec h opener c (Ends p) a = a
+
+  pub operations_at : (s : Stretch) → At P given s.start → Stands P (Returns P given s.start) (operations given s)
+  unfolding operations
+  operations_at = kept (stretch_work given) (fault Budget 0) (operations_step given) (λ s r. At P given s.start → Stands P (Returns P given s.start) r) (λ s _. begin) (λ rec h s k.
+      then_at P (PartAt s.start) (Returns P given s.start) (path_part given s.start) _ (part_at s.start k) (λ part a. follows rec h s.opener s.start part a))
+
+  pub path_at : (at : ℕ) (c : Configuration) → At P given c → Stands P (Returns P given c) (path given at c)
+  unfolding path
+  path_at at c h =
+      then_at P (Looks P given c) (Returns P given c) (ahead_of given c) _ (ahead_at P given begin c h) (λ first a.
+      then_at P (λ (r : Reached). Advances P given c r.behind) (Returns P given c) (point given first) _ (point_at c first a) (λ start b.
+      let begun = drawn_with (Move start.point) start.behind in
+      let there = record { less = b.less; at = record { bodies = b.at.bodies; rest = b.at.rest; end = b.at.end } } in
+      weaker_at P (Returns P given begun) (Returns P given c) (operations given (stretch (A_path at) begun)) (λ p k. then_returns P given c begun p (comes P given c begun there) k) (operations_at (stretch (A_path at) begun) there.at)))

@@ -1,9 +1,0 @@
-use Rattle.std.proofs.Common.{◌≡◌, length}
-use Rattle.tk_picture.specs.Coordinates.{before_spaces}
-use Rattle.tk_picture.proofs.coordinate.before_spaces.Given as goal
-
-abbrev pub invariant-loop-last : goal.invariant-loop-last
-invariant-loop-last l = before_spaces l.fn.toks ≡ before_spaces l.rest
-
-abbrev pub decreases-loop-last : goal.decreases-loop-last
-decreases-loop-last l = length l.rest

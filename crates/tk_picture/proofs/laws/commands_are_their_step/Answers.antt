@@ -1,5 +1,0 @@
-use Rattle.tk_picture.proofs.Commanding.{commands_are}
-use Rattle.tk_picture.proofs.laws.commands_are_their_step.Goals as goal
-
-pub returns : goal.returns
-returns c = commands_are
