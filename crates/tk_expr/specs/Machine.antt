@@ -1,4 +1,6 @@
--- The machine that reads an expression piece by piece, without a tree. What it comes to for a text is what the relation of Evaluates says of it.
+-- Private: only the code's own contracts use this; the law `evaluated_is_the_answer` says that what the machine makes of a text is its answer by Evaluates.
+-- The machine reads an expression piece by piece, without a tree. In `1+2*3` the sum waits with 1, then the product with 2; where the pieces run out
+-- the product settles first, then the sum. An open parenthesis keeps what waits outside it.
 use Rattle.std.specs.Prelude.{ℕ, Bool, true, false, not, nat_lt, if◌then◌else◌, List, [], ◌∷◌, length, Option, Some, None, is_some, Ok, ℤ}
 use Rattle.tk_num.specs.declared.unit.Unit.{Unit}
 use Rattle.tk_token.specs.declared.Code.TheVariants.{TooDeep, Expression}
