@@ -38,3 +38,7 @@ module _ (P : ℕ → Type 0) where
 pub ok_at : {A : Type 0} (P : ℕ → Type 0) (Q : A → Type 0) (m : Answer A) → Stands P Q m → IfOk m Q
 ok_at P Q (Ok a) h = h
 ok_at P Q (Err e) h = tt
+
+pub any_value : {A : Type 0} (m : Answer A) → IfOk m (λ _. Unit {0})
+any_value (Ok a) = tt
+any_value (Err e) = tt

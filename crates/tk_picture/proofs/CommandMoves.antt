@@ -1,0 +1,131 @@
+-- How a run moves through commands and documents.
+use Rattle.std.specs.Prelude.{◌≡◌, ℕ, zero, suc, ◌+◌, ◌-◌, ◌<◌, ◌≤◌, nat_lt, Bool, true, false, if◌then◌else◌, List, [], ◌∷◌, length, Option, Some, None, Ok, Err, IfOk, IfSome, codes}
+use Rattle.std.specs.Option.{option_to_list}
+use Rattle.std.specs.FinMap as map
+use Rattle.std.specs.FinMap.{get-empty}
+use Rattle.std.specs.Ordering.{nat_cmp}
+use Rattle.std.proofs.Common.{refl, sym, subst, ap, ◌∙◌, arith}
+use Rattle.tk_item.specs.declared.Seg.{Seg}
+use Rattle.tk_item.specs.declared.Seg.TheVariants.{Move, Line, Curve, Close}
+use Rattle.tk_token.specs.declared.Code.TheVariants.{Budget, Levels, Unbuilt}
+use Rattle.tk_token.specs.declared.Tok.{Tok}
+use Rattle.tk_token.specs.Answers.{Answer, ◌>>=◌, fault}
+use Rattle.tk_token.proofs.Answering.{then_alike}
+use Rattle.tk_token.proofs.Fixpoint.{kept}
+use Rattle.tk_store.specs.declared.Macro.{Macro}
+use Rattle.tk_expand.specs.Unread.{Unread, past_spaces}
+use Rattle.tk_expand.specs.Expand.{Stream, work}
+use Rattle.tk_expand.specs.Reading.{Read, next_token, after_name}
+use Rattle.tk_expand.proofs.Falling.{Falls}
+use Rattle.tk_expand.proofs.Places.{StandAt, Stands, BodiesAt}
+use Rattle.tk_keys.specs.Environment.{Env, first_env, level}
+use Rattle.tk_keys.specs.Given.{Given}
+use Rattle.tk_keys.specs.Settings.{Set, one_setting}
+use Rattle.tk_keys.proofs.Reading.{Within, TokenWithin, spaces_at, spaces_within, token_within, after_name_within}
+use Rattle.tk_keys.proofs.Setting.{SetAt, one_setting_at}
+use Rattle.tk_keys.proofs.Standing.{then_at, if_at, weaker_at, ok_at}
+use Rattle.tk_picture.specs.declared.Compiled.{Compiled}
+use Rattle.tk_picture.specs.Commands.{Opener, A_picture, A_group, Beginning, Begins_path, Opens_group, Closes_group, Ends_environment, Begins_other, beginning_of, Block, block, CommandFlow, with_path, with_setting, set_or_unbuilt, command, command_at, commands_step, block_work, commands}
+use Rattle.tk_picture.specs.Configurations.{Configuration, configuration, Progress, progress, progress_at, with_progress, stream_at, Lookahead, ahead_of}
+use Rattle.tk_picture.specs.Documents.{is_word, compiled, nothing_after, picture_behind, document}
+use Rattle.tk_picture.specs.Flow.{Flow, Goes_on, Ends, go_on}
+use Rattle.tk_picture.specs.Paths.{path}
+use Rattle.tk_picture.specs.Pictures.{Picture, first_picture, drawn_by, drawn}
+use Rattle.tk_picture.proofs.Moving.{stream_back, At, Comes, Looks, Returns, then_returns, then_looks, looked, ahead_at}
+use Rattle.tk_picture.proofs.PathMoves.{EvaluatesAt, path_at}
+use Rattle.tk_picture.proofs.Pinned.{IsPinned, is_its_step, is_never_stuck}
+
+-- a path that is drawn costs nothing
+drawn_units : (segs : List Seg) (pic : Picture) → (drawn_by segs pic).units ≡ pic.units
+drawn_units [] pic = refl
+drawn_units (Move p ∷ []) pic = refl
+drawn_units (Move p ∷ x ∷ xs) pic = refl
+drawn_units (Line p ∷ xs) pic = refl
+drawn_units (Curve p q r ∷ xs) pic = refl
+drawn_units (Close ∷ xs) pic = refl
+
+module _ (P : ℕ → Type 0) (given : Given) (begin : P 0) (evaluates : EvaluatesAt P given) where
+  -- what a command leaves
+  abbrev pub PartAt : Configuration → CommandFlow → Type 0
+  PartAt c (Goes_on d) = Comes P given c d
+  PartAt c (Ends p) = Returns P given c p
+
+  level_at : (at : ℕ) (env : Env) → P at → BodiesAt P env.macros → Stands P (λ (e : Env). BodiesAt P e.macros) (level at env)
+  level_at at env p h = if_at P (λ (e : Env). BodiesAt P e.macros) (nat_lt env.levels 128) (Ok (record env { levels = suc env.levels })) (fault Levels at) h p
+
+  -- the run goes on with what came back
+  goes_on : (c : Configuration) (p : Progress) → At P given c → Returns P given c p → PartAt c (Goes_on (with_progress c p))
+  goes_on c p h k = record { fell = k.fell; at = record { bodies = h.bodies; rest = k.rest; end = k.end } }
+
+  path_drawn : (c : Configuration) (p : Progress) → Returns P given c p → Returns P given c (with_path p)
+  path_drawn c p h =
+      let same = drawn_units p.picture.path.segs p.picture in
+      record { fell = record { end = h.fell.end; units = (let a = h.fell.units in omega arith); work_falls = (let a = h.fell.work_falls in omega arith) }; rest = h.rest; end = h.end }
+
+  set_at : (at : ℕ) (c : Configuration) (set : Option Set) → P at → IfSome set (SetAt P given.budget (stream_at c)) → Stands P (PartAt c) (set_or_unbuilt at c set)
+  set_at at c None p h = p
+  set_at at c (Some set) p h = record { fell = h.fell; at = record { bodies = h.bodies; rest = h.rest; end = h.end } }
+
+  module _ (rec : Block → Answer Progress) (h : (b : Block) → At P given b.start → Stands P (Returns P given b.start) (rec b)) where
+    command_moves : (b : Beginning) (t : Tok) (opener : Opener) (c : Configuration) → P t.at → At P given c → Stands P (PartAt c) (command given rec b t opener c)
+    command_moves Begins_path t opener c p k =
+        then_at P (λ (e : Env). BodiesAt P e.macros) (PartAt c) (level t.at c.env) _ (level_at t.at c.env p k.bodies) (λ inside m.
+        then_at P (Returns P given c) (PartAt c) (path given t.at (record c { env = inside })) _ (path_at P given begin evaluates t.at (record c { env = inside }) (record { bodies = m; rest = k.rest; end = k.end })) (λ q r.
+        goes_on c (with_path q) k (path_drawn c q r)))
+    command_moves Opens_group t opener c p k =
+        then_at P (λ (e : Env). BodiesAt P e.macros) (PartAt c) (level t.at c.env) _ (level_at t.at c.env p k.bodies) (λ inside m.
+        then_at P (Returns P given c) (PartAt c) (rec (block (A_group t.at) (record c { env = inside }))) _ (h (block (A_group t.at) (record c { env = inside })) (record { bodies = m; rest = k.rest; end = k.end })) (λ q r.
+        goes_on c q k r))
+    command_moves Closes_group t (A_picture at) c p k = p
+    command_moves Closes_group t (A_group at) c p k = record { fell = record { end = refl; units = omega arith; work_falls = omega arith }; rest = k.rest; end = k.end }
+    command_moves Ends_environment t (A_picture at) c p k =
+        then_at P (Within P (length c.list.rest) c.list.end) (PartAt c) (after_name Unbuilt (codes "tikzpicture") c.list) _ (after_name_within P (length c.list.rest) c.list.end Unbuilt (codes "tikzpicture") c.list (record { short = omega arith; rest = k.rest; same = refl; last = k.end })) (λ list w.
+        record { fell = record { end = w.same; units = omega arith; work_falls = (let a = w.short in omega arith) }; rest = w.rest; end = w.last })
+    command_moves Ends_environment t (A_group at) c p k = p
+    command_moves Begins_other t opener c p k =
+        then_at P (λ set. IfSome set (SetAt P given.budget (stream_at c))) (PartAt c) (one_setting given t c.env (stream_at c)) _ (one_setting_at P given t c.env (stream_at c) k.bodies k.rest k.end) (λ set m. set_at t.at c set p m)
+
+    pub command_at_moves : (opener : Opener) (token : Option Tok) (c : Configuration) → IfSome token (λ t. P t.at) → At P given c → Stands P (PartAt c) (command_at given rec opener token c)
+    command_at_moves opener None c p k = k.end
+    command_at_moves opener (Some t) c p k = command_moves (beginning_of given.names t.kind) t opener c p k
+
+    follows : (opener : Opener) (c : Configuration) (part : CommandFlow) → PartAt c part → Stands P (Returns P given c) (go_on (λ next. rec (block opener next)) part)
+    follows opener c (Goes_on d) a = weaker_at P (Returns P given d) (Returns P given c) (rec (block opener d)) (λ p b. then_returns P given c d p a b) (h (block opener d) a.at)
+    follows opener c (Ends p) a = a
+
+    step_moves : (b : Block) → At P given b.start → Stands P (Returns P given b.start) (commands_step given rec b)
+    step_moves b k =
+        then_at P (Looks P given b.start) (Returns P given b.start) (ahead_of given b.start) _ (ahead_at P given begin b.start k) (λ first a.
+        then_at P (PartAt first.behind) (Returns P given b.start) (command_at given rec b.opener first.token first.behind) _ (command_at_moves b.opener first.token first.behind a.token a.at) (λ part m.
+        weaker_at P (Returns P given first.behind) (Returns P given b.start) (go_on (λ next. rec (block b.opener next)) part) (λ p r. then_returns P given b.start first.behind p (looked P given b.start first a) r) (follows b.opener first.behind part m)))
+
+  pub commands_move : (b : Block) → At P given b.start → Stands P (Returns P given b.start) (commands given b)
+  unfolding commands
+  commands_move = kept (block_work given) (fault Budget 0) (commands_step given) (λ b r. At P given b.start → Stands P (Returns P given b.start) r) (λ b _. begin) step_moves
+
+  -- ---- documents
+
+  no_bodies : BodiesAt P first_env.macros
+  no_bodies w m is = (let none : ◌≡◌ {A = Option Macro} None (Some m) = sym (get-empty nat_cmp w) ∙ is in absurd cc)
+
+  nothing_at : (c : Compiled) (ts : List Tok) → StandAt P ts → Stands P (λ _. Unit {0}) (nothing_after c ts)
+  nothing_at c [] h = tt
+  nothing_at c (t ∷ ts) h = h.0
+
+  picture_at : (at : ℕ) (list : Unread) → P at → StandAt P list.rest → P list.end → Stands P (λ _. Unit {0}) (picture_behind given at list)
+  unfolding picture_behind
+  picture_at at list p h last =
+      then_at P (Within P (length list.rest) list.end) (λ _. Unit {0}) (after_name Unbuilt (codes "tikzpicture") list) _ (after_name_within P (length list.rest) list.end Unbuilt (codes "tikzpicture") list (record { short = omega arith; rest = h; same = refl; last = last })) (λ inside w.
+      then_at P (λ (e : Env). BodiesAt P e.macros) (λ _. Unit {0}) (level at first_env) _ (level_at at first_env p no_bodies) (λ env b.
+      let start = configuration env first_picture inside in
+      then_at P (Returns P given start) (λ _. Unit {0}) (commands given (block (A_picture at) start)) _ (commands_move (block (A_picture at) start) (record { bodies = b; rest = w.rest; end = w.last })) (λ q r.
+      nothing_at (compiled q.picture) (after_spaces_of q) (spaces_at P q.list.rest r.rest))))
+    where
+      abbrev after_spaces_of : Progress → List Tok
+      after_spaces_of q = (past_spaces q.list).rest
+
+  pub document_at : (list : Unread) → StandAt P list.rest → P list.end → Stands P (λ _. Unit {0}) (document given list)
+  unfolding document
+  document_at list h last =
+      then_at P (TokenWithin P (length list.rest) list.end) (λ _. Unit {0}) (next_token Unbuilt (past_spaces list)) _ (token_within P (length list.rest) list.end Unbuilt (past_spaces list) (spaces_within P (length list.rest) list.end list (record { short = omega arith; rest = h; same = refl; last = last }))) (λ first w.
+      if_at P (λ _. Unit {0}) (is_word given.names (codes "begin") first.value.kind) (picture_behind given first.value.at first.list) (fault Unbuilt first.value.at) (picture_at first.value.at first.list w.token w.list.rest w.list.last) w.token)

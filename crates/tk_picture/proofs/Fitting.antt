@@ -1,0 +1,24 @@
+-- What is drawn fits a document.
+use Rattle.std.proofs.Common.{◌≡◌, refl, arith, lit<, codes, subst, sym}
+use Rattle.std.proofs.lemmas.Int.{ints}
+use Rattle.std.specs.List.{AllByRecursion}
+use Rattle.tk_item.specs.declared.Drawing.{Drawing}
+use Rattle.tk_item.specs.Frame.{IsProper}
+use Rattle.tk_svg.specs.Document.{IsFamily}
+use Rattle.tk_svg.specs.Fitting.{Fits, FitsItem}
+
+is_family : IsFamily (codes "monospace")
+is_family = record { some = lit< tt; each = refl }
+
+-- a drawing of a proper frame and fitting items fits
+pub fits : (d : Drawing) → IsProper d.frame → d.family ≡ codes "monospace" → AllByRecursion FitsItem d.items → Fits d
+fits d p f h = record {
+  sides = p.across;
+  heights = p.upward;
+  left = (let k = p.left in omega (arith, ints));
+  top = (let k = p.top in omega (arith, ints));
+  width = (let a = p.left in let b = p.right in let c = p.across in omega (arith, ints));
+  height = (let a = p.bottom in let b = p.top in let c = p.upward in omega (arith, ints));
+  family = subst IsFamily (sym f) is_family;
+  items = h;
+}

@@ -1,0 +1,10 @@
+pub mod CommandMoves
+pub mod Evaluating
+pub mod Fitting
+pub mod Moving
+pub mod Numbered
+pub mod Outcomes
+pub mod PathMoves
+pub mod Pinned
+pub mod Sources
+pub mod Unbounded

@@ -1,0 +1,104 @@
+-- What a reading tells of a source.
+use Rattle.std.proofs.Common.{◌≡◌, ℕ, ◌≤◌, List, [], ◌∷◌, length, map, take, Result, Ok, Err, IfOk, IfErr, refl, ap, sym, subst, ◌∙◌}
+use Rattle.std.specs.List.{All, AllByRecursion}
+use Rattle.std.specs.Str.{IsUtf8}
+use Rattle.tk_token.specs.declared.Fault.{Fault}
+use Rattle.tk_token.specs.declared.Refusal.{Refusal}
+use Rattle.tk_token.specs.declared.Refusal.TheVariants as refusals
+use Rattle.tk_token.specs.declared.Tok.{Tok}
+use Rattle.tk_token.specs.Answers.{Answer, ◌>>=◌}
+use Rattle.tk_token.specs.Faults.{Lexes}
+use Rattle.tk_token.specs.Refusals.{OnFault, Gives}
+use Rattle.tk_token.specs.Token.{Token, token_of, IsWordIn}
+use Rattle.tk_token.specs.Words.{EachOnce, words_of, tok_of}
+use Rattle.tk_expand.specs.Unread.{Unread, unread}
+use Rattle.tk_expand.proofs.Places.{StandAt, Stands}
+use Rattle.tk_expr.specs.Evaluated.{evaluated}
+use Rattle.tk_expr.specs.Evaluates.{Evaluation, IsEvaluation}
+use Rattle.tk_expr.proofs.Evaluations.{is_evaluated}
+use Rattle.tk_expr.proofs.Runs.{evaluated_is_the_answer}
+use Rattle.tk_keys.specs.Given.{Given, known_words}
+use Rattle.tk_picture.specs.declared.Compiled.{Compiled}
+use Rattle.tk_picture.specs.Documents.{document}
+use Rattle.tk_picture.specs.Outcome.{font_units, given_for, document_of, IsOutcome, of_tokens}
+use Rattle.tk_picture.proofs.Evaluating.{evaluates_at}
+use Rattle.tk_picture.proofs.Numbered.{numbers_back}
+use Rattle.tk_picture.proofs.Sources.{IsPlace, some_tokens, one_answer, refused_place, token_places, end_place, first_place}
+use Rattle.tk_picture.proofs.CommandMoves.{document_at}
+
+-- what is given where the words are those
+abbrev pub given_words : List (List ℕ) → ℕ → Given
+given_words names budget = record { names = known_words names; evaluate = evaluated; font = font_units; budget = budget }
+
+module _ (budget : ℕ) (source : List ℕ) where
+  -- a fault of cutting the source is its outcome, and has a line and a column
+  pub byte_outcome : (e : Refusal) → OnFault e (λ f. Lexes source (Err f)) → OnFault e (λ f. IsOutcome budget source (Err f))
+  byte_outcome (refusals.Fault f) h = of_tokens h evaluated_is_the_answer
+  byte_outcome refusals.OutOfMemory h = tt
+
+  pub byte_place : (e : Refusal) → OnFault e (λ f. Lexes source (Err f)) → OnFault e (λ f. f.at ≤ length source)
+  byte_place (refusals.Fault f) h = (refused_place source f h).within
+  byte_place refusals.OutOfMemory h = tt
+
+  pub byte_text : (e : Refusal) → OnFault e (λ f. Lexes source (Err f)) → OnFault e (λ f. IsUtf8 (take f.at source))
+  byte_text (refusals.Fault f) h = (refused_place source f h).text
+  byte_text refusals.OutOfMemory h = tt
+
+  module _ (names : List (List ℕ)) (toks : List Tok) (lexed : Lexes source (Ok (map (token_of names) toks))) (numbers : names ≡ words_of (map (token_of names) toks)) (words : All (λ (t : Tok). IsWordIn names t.kind) toks) (once : EachOnce names) where
+    -- what the tokens come to
+    pub comes_to : Answer Compiled
+    comes_to = document (given_words names budget) (unread toks (length source))
+
+    same_toks : map (tok_of names) (map (token_of names) toks) ≡ toks
+    same_toks = numbers_back names once toks words
+
+    -- the tokens by their numbers draw what the tokens draw
+    drawn_is : document_of evaluated budget (length source) (map (token_of names) toks) ≡ document (given_words names budget) (unread toks (length source))
+    drawn_is = by (words_of (map (token_of names) toks)) numbers
+      where
+        by : (ws : List (List ℕ)) → names ≡ ws → document (given_words ws budget) (unread (map (tok_of ws) (map (token_of names) toks)) (length source)) ≡ document (given_words names budget) (unread toks (length source))
+        by ws e =
+            ap (λ (vs : List (List ℕ)). document (given_words vs budget) (unread (map (tok_of vs) (map (token_of names) toks)) (length source))) (sym e)
+            ∙ ap (λ (ts : List Tok). document (given_words names budget) (unread ts (length source))) same_toks
+
+    outcome : IsOutcome budget source (document (given_words names budget) (unread toks (length source)))
+    outcome = subst (IsOutcome budget source) drawn_is (of_tokens lexed evaluated_is_the_answer)
+
+    pub drawing_outcome : (c : Compiled) → document (given_words names budget) (unread toks (length source)) ≡ Ok c → IsOutcome budget source (Ok c)
+    drawing_outcome c h = subst (IsOutcome budget source) h outcome
+
+    pub fault_outcome : (e : Refusal) → (r : Answer Compiled) → r ≡ document (given_words names budget) (unread toks (length source)) → OnFault e (λ f. r ≡ Err f) → OnFault e (λ f. IsOutcome budget source (Err f))
+    fault_outcome (refusals.Fault f) r is h = subst (IsOutcome budget source) (sym is ∙ h) outcome
+    fault_outcome refusals.OutOfMemory r is h = tt
+
+    tok_places : (ts : List Tok) → AllByRecursion (λ (t : Token). IsPlace source t.at) (map (token_of names) ts) → StandAt (IsPlace source) ts
+    tok_places [] k = tt
+    tok_places (t ∷ ts) k = (k.0, tok_places ts k.1)
+
+    fault_at : (f : Fault) → document (given_words names budget) (unread toks (length source)) ≡ Err f → IsPlace source f.at
+    fault_at f h = told (document (given_words names budget) (unread toks (length source))) h
+        (document_at (IsPlace source) (given_words names budget) (first_place source (map (token_of names) toks) lexed) (evaluates_at (IsPlace source) (known_words names) budget) (unread toks (length source)) (tok_places toks (token_places source (map (token_of names) toks) lexed)) (end_place source (map (token_of names) toks) lexed))
+      where
+        told : (m : Answer Compiled) → m ≡ Err f → Stands (IsPlace source) (λ _. Unit {0}) m → IsPlace source f.at
+        told (Ok c) e k = absurd cc
+        told (Err g) e k = (let same : g ≡ f = cc in subst (λ (g : Fault). IsPlace source g.at) same k)
+
+    pub fault_place : (e : Refusal) → (r : Answer Compiled) → r ≡ document (given_words names budget) (unread toks (length source)) → OnFault e (λ f. r ≡ Err f) → OnFault e (λ f. f.at ≤ length source)
+    fault_place (refusals.Fault f) r is h = (fault_at f (sym is ∙ h)).within
+    fault_place refusals.OutOfMemory r is h = tt
+
+    pub fault_text : (e : Refusal) → (r : Answer Compiled) → r ≡ document (given_words names budget) (unread toks (length source)) → OnFault e (λ f. r ≡ Err f) → OnFault e (λ f. IsUtf8 (take f.at source))
+    fault_text (refusals.Fault f) r is h = (fault_at f (sym is ∙ h)).text
+    fault_text refusals.OutOfMemory r is h = tt
+
+-- ---- laws
+
+-- each source has an outcome
+pub some_outcome : (budget : ℕ) (source : List ℕ) → (outcome : Answer Compiled) × IsOutcome budget source outcome
+some_outcome budget source = (let some = some_tokens source in (some.0 >>= document_of evaluated budget (length source), of_tokens some.1 evaluated_is_the_answer))
+
+-- and only one
+pub one_outcome : (budget : ℕ) (source : List ℕ) (a b : Answer Compiled) → IsOutcome budget source a → IsOutcome budget source b → a ≡ b
+one_outcome budget source a b (of_tokens {tokens = s} {ev = e} t i) (of_tokens {tokens = r} {ev = f} u j) =
+    ap (λ (ts : Answer (List Token)). ts >>= document_of e budget (length source)) (one_answer source s r t u)
+    ∙ ap (λ (ev : Evaluation). r >>= document_of ev budget (length source)) (sym (is_evaluated e i) ∙ is_evaluated f j)
