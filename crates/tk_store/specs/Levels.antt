@@ -28,10 +28,10 @@ new_levels = record { outer = []; top = empty_level }
 
 -- one more level is open: a copy of the last, at which no settings were made
 abbrev pub opened : Levels → Levels
-opened levels = record { outer = levels.top ∷ levels.outer; top = record { macros = levels.top.macros; settings = 0 } }
+opened levels = record { outer = levels.top ∷ levels.outer; top = record levels.top { settings = 0 } }
 
 -- a word has a macro at the last level; all else stays, and the last level's settings are at most one more
 pub record SetsMacro (old new : Levels) (word : ℕ) (value : Macro) : Type 0 where
-  pub outer : new.outer ≡ old.outer
-  pub macros : new.top.macros ≡ map.insert old.top.macros word value
+  pub levels : new
+      ≡ record old { top = record old.top { macros = map.insert old.top.macros word value; settings = new.top.settings } }
   pub settings : (old.top.settings ≤ new.top.settings) × (new.top.settings ≤ old.top.settings + 1)

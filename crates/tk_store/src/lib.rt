@@ -2,12 +2,13 @@
 #![tactic(auto)]
 
 mod body;
+mod steps;
 mod store;
-#[cfg(test)]
-mod tests;
+mod tables;
 
-pub use body::Body;
+pub use body::{Body, digit_of};
 use std::alloc::AllocError;
+pub use steps::Steps;
 pub use store::Store;
 
 /// What a word stands for: a body, in which arguments take the places of parameters.

@@ -1,96 +1,48 @@
 //! Macros in levels.
 
-ghost use Rattle.std.specs.Prelude.{◌≡◌, ◌+◌, ◌∷◌, ◌<◌, ◌≤◌, length, IfOk, OnOk, OnErr};
+ghost use Rattle.std.specs.Prelude.{◌≡◌, ◌+◌, ◌-◌, ◌∷◌, ◌<◌, ◌≤◌, length, reverse, take, drop, IfOk, IfSome, OnOk, OnErr};
+ghost use Rattle.std.specs.List.{AllByRecursion};
 ghost use Rattle.std.specs.Option.{option_copied};
 ghost use Rattle.std.specs.FinMap as map;
-ghost use Rattle.tk_store.specs.Levels.{empty_level, new_levels, opened, SetsMacro};
+ghost use Rattle.tk_store.specs.Bodies.{IsProperMacro, AreProperMacros};
+ghost use Rattle.tk_store.specs.Levels.{new_levels, opened, SetsMacro};
+ghost use Rattle.tk_store.specs.Undo.{before_all, IsProperSaved};
 
 use crate::Macro;
-use indexmap::IndexMap;
+use crate::steps::Steps;
+use crate::tables::{Saved, Tables};
+use arrayvec::ArrayVec;
 use std::alloc::{AllocError, Global};
-use std::marker::Model;
+use std::marker::{Brand, Model};
+use std::sync::ledger::{Blank, Ledger};
 
-/// The macros of one level, and how often one was set there.
-#[derive(Drop)]
-struct Level {
-    macros: IndexMap<u32, Macro>,
-    settings: u64,
-}
-
-impl Model for Level {
-    ghost use Rattle.std.specs.FinMap as map;
-    ghost use Rattle.std.specs.Coded.{codes};
-    ghost use Rattle.tk_store.specs.Levels as levels;
-
-    ghost Value = { levels.Level };
-
-    ghost coded = { Prim.hlevel (codes, map.code) };
-
-    ghost view = { λ level. record { macros = map.from_entries level.macros.entries; settings = level.settings } };
-}
-
-impl Level {
-    fn new(alloc: Global) -> Level
-        ensures { result ≡ empty_level }
-    {
-        Level {
-            macros: IndexMap::new(alloc),
-            settings: 0,
-        }
-    }
-
-    fn get_macro(&self, word: u32) -> Option<&Macro>
-        ensures { option_copied result ≡ map.get self.now.macros word }
-    {
-        self.macros.get(&word)
-    }
-
-    fn set_macro(&mut self, word: u32, value: Macro) -> Result<(), AllocError>
-        ensures macros { OnOk result (self.new.macros ≡ map.insert self.old.macros word value) }
-        ensures settings { OnOk result ((self.old.settings ≤ self.new.settings) × (self.new.settings ≤ self.old.settings + 1)) }
-        ensures err { OnErr result (self.new ≡ self.old) }
-    {
-        self.macros.insert(word, value)?;
-        self.settings = self.settings.saturating_add(1);
-        Ok(())
-    }
-
-    /// The same level, with a map of its own.
-    fn copy(&self) -> Result<Level, AllocError>
-        ensures { IfOk result (λ level. level ≡ self.now) }
-    {
-        Ok(Level {
-            macros: self.macros.clone()?,
-            settings: self.settings,
-        })
-    }
-
-    /// Counts the settings anew.
-    fn restart(&mut self)
-        ensures { self.new ≡ record self.old { settings = 0 } }
-    {
-        self.settings = 0;
-    }
-}
-
-/// The macros of all open levels. No level is open at first.
+/// The macros of all open levels, of which there are at most 128, and none at first. Each macro is proper.
 #[derive(Drop)]
 pub struct Store {
-    outer: Vec<Level>,
-    top: Level,
+    /// What holds at the current level.
+    tables: Tables,
+    /// What the settings at open levels replaced, the oldest first.
+    saved: Vec<Saved>,
+    /// For each open level, how many settings there were when it was opened.
+    marks: ArrayVec<usize, 128>,
 }
 
 impl Model for Store {
+    ghost use Rattle.std.specs.Prelude.{reverse, length};
+    ghost use Rattle.std.specs.List.{AllByRecursion};
     ghost use Rattle.std.specs.Coded.{codes};
     ghost use Rattle.std.specs.FinMap as map;
-    ghost use Rattle.std.specs.Prelude.{reverse};
     ghost use Rattle.tk_store.specs.Levels.{Levels};
+    ghost use Rattle.tk_store.specs.Undo.{levels_of, AreMarks, IsProperSaved};
 
     ghost Value = { Levels };
 
     ghost coded = { Prim.hlevel (codes, map.code) };
 
-    ghost view = { λ store. record { outer = reverse store.outer.items; top = store.top } };
+    ghost view = { λ store. levels_of (reverse store.saved.items) (reverse store.marks.items) store.tables };
+
+    ghost invariant = { λ store. AreMarks (length (reverse store.saved.items)) (reverse store.marks.items)
+        × AllByRecursion IsProperSaved (reverse store.saved.items) };
 }
 
 impl Store {
@@ -99,52 +51,96 @@ impl Store {
         ensures { IfOk result (λ store. store ≡ new_levels) }
     {
         Ok(Store {
-            outer: Vec::new(alloc),
-            top: Level::new(alloc),
+            tables: Tables::new(alloc),
+            saved: Vec::new(alloc),
+            marks: ArrayVec::new(),
         })
     }
 
     /// The macro of the word with that number, if it has one. This takes no memory.
     pub fn get_macro(&self, name: u32) -> Option<&Macro>
-        ensures { option_copied result ≡ map.get self.now.top.macros name }
+        ensures value { option_copied result ≡ map.get self.now.top.macros name }
+        ensures found { IfSome result (λ found. IsProperMacro found.now) }
+        ensures proper { AreProperMacros self.now.top.macros }
     {
-        self.top.get_macro(name)
+        self.tables.get_macro(name)
     }
 
     /// Gives the word with that number a macro, until the current level is closed. On want of memory all stays as it was.
     pub fn set_macro(&mut self, name: u32, value: Macro) -> Result<(), AllocError>
+        requires { IsProperMacro value }
         ensures ok { OnOk result (SetsMacro self.old self.new name value) }
         ensures err { OnErr result (self.new ≡ self.old) }
     {
-        self.top.set_macro(name, value)
-    }
-
-    /// Opens a level. On want of memory all stays as it was.
-    pub fn open(&mut self) -> Result<(), AllocError>
-        requires { length self.old.outer < 128 }
-        ensures ok { OnOk result (self.new ≡ opened self.old) }
-        ensures err { OnErr result (self.new ≡ self.old) }
-    {
-        let outer = self.top.copy()?;
-        self.outer.push(outer)?;
-        self.top.restart();
+        self.saved.reserve(1)?;
+        let replaced = self.tables.set_macro(name, value)?;
+        if self.marks.is_empty() {
+            return Ok(());
+        }
+        self.saved.push(replaced)?;
         Ok(())
     }
 
-    /// Closes the current level: what was set at it ends. This takes no memory.
-    pub fn close(&mut self)
+    /// Opens a level, at which all holds that held before. This takes no memory.
+    pub fn open(&mut self)
+        requires { length self.old.outer < 128 }
+        ensures { self.new ≡ opened self.old }
+    {
+        self.marks.push(self.saved.len());
+    }
+
+    /// Closes the current level: what was set at it ends. This takes no memory. A step is one setting that is undone.
+    pub fn close<L: Ledger>(&mut self, steps: &mut Steps<L>)
+        requires { 0 < length self.old.outer }
+        ensures outer { self.old.outer ≡ self.new.top ∷ self.new.outer }
+        ensures low { steps.old ≤ steps.new }
+        ensures high { steps.new ≤ steps.old + self.old.top.settings }
+    {
+        if let Some(mark) = self.marks.pop() {
+            undo(&mut self.tables, &mut self.saved, mark, steps);
+        }
+    }
+
+    /// Closes the current level for a caller that doesn't count. This takes no memory.
+    pub fn close_uncounted(&mut self)
         requires { 0 < length self.old.outer }
         ensures { self.old.outer ≡ self.new.top ∷ self.new.outer }
     {
-        if let Some(level) = self.outer.pop() {
-            self.top = level;
-        }
+        self.close_counting::<Brand>(Blank::new(1));
+    }
+
+    /// Closes the current level, and counts in a ledger of its own.
+    fn close_counting<L: Ledger>(&mut self, blank: Blank)
+        requires level { 0 < length self.old.outer }
+        requires name { blank.name ≡ L.name }
+        requires parts { blank.parts ≡ L.parts }
+        requires some { 0 < L.parts }
+        ensures { self.old.outer ≡ self.new.top ∷ self.new.outer }
+    {
+        self.close::<L>(&mut Steps::new(blank));
     }
 
     /// How many levels are open. This takes no memory.
     pub fn level(&self) -> usize
         ensures { result ≡ length self.now.outer }
     {
-        self.outer.len()
+        self.marks.len()
+    }
+}
+
+/// Undoes settings, the newest first, until no more than so many are left.
+fn undo<L: Ledger>(tables: &mut Tables, saved: &mut Vec<Saved>, mark: usize, steps: &mut Steps<L>)
+    requires mark { mark ≤ length (reverse saved.old.items) }
+    requires proper { AllByRecursion IsProperSaved (reverse saved.old.items) }
+    ensures tables { tables.new ≡ before_all (take (length (reverse saved.old.items) - mark) (reverse saved.old.items)) tables.old }
+    ensures saved { reverse saved.new.items ≡ drop (length (reverse saved.old.items) - mark) (reverse saved.old.items) }
+    ensures proper { AllByRecursion IsProperSaved (reverse saved.new.items) }
+    ensures cost { steps.new + mark ≡ steps.old + length (reverse saved.old.items) }
+{
+    while saved.len() > mark {
+        if let Some(newest) = saved.pop() {
+            tables.put_back(newest);
+            steps.tick();
+        }
     }
 }

@@ -1,0 +1,18 @@
+use Rattle.std.proofs.Common.{◌≡◌, ◌+◌, ◌-◌, ◌≤◌, length, take, drop}
+use Rattle.std.specs.Prelude.{reverse}
+use Rattle.std.specs.List.{AllByRecursion}
+use Rattle.tk_store.specs.Undo.{before_all, IsProperSaved}
+use Rattle.tk_store.proofs.store.undo.Given as goal
+
+abbrev pub invariant-loop-saved : goal.invariant-loop-saved
+invariant-loop-saved g l = record {
+  enough : l.mark ≤ length (reverse l.saved.items);
+  back : before_all (take (length (reverse l.saved.items) - l.mark) (reverse l.saved.items)) l.tables
+      ≡ before_all (take (length (reverse l.fn.saved.items) - l.mark) (reverse l.fn.saved.items)) l.fn.tables;
+  left : drop (length (reverse l.saved.items) - l.mark) (reverse l.saved.items) ≡ drop (length (reverse l.fn.saved.items) - l.mark) (reverse l.fn.saved.items);
+  proper : AllByRecursion IsProperSaved (reverse l.saved.items);
+  cost : l.steps + length (reverse l.saved.items) ≡ l.fn.steps + length (reverse l.fn.saved.items);
+}
+
+abbrev pub decreases-loop-saved : goal.decreases-loop-saved
+decreases-loop-saved g l = length (reverse l.saved.items)
