@@ -1,69 +1,85 @@
 -- The heads of definitions: what stands between the command and the body.
-use Rattle.std.specs.Prelude.{ℕ, zero, suc, ◌+◌, ◌==◌, if◌then◌else◌, List, Ok}
+use Rattle.std.specs.Prelude.{ℕ, zero, suc, ◌+◌, ◌==◌, if◌then◌else◌, Option, Some, None, Ok}
+use Rattle.tk_token.specs.declared.Code.TheVariants.{MacroSyntax}
 use Rattle.tk_token.specs.declared.Kind.{Kind}
 use Rattle.tk_token.specs.declared.Kind.TheVariants.{Char, Word, Open}
 use Rattle.tk_token.specs.declared.Tok.{Tok}
-use Rattle.tk_token.specs.Answers.{Answer, ◌>>=◌}
-use Rattle.tk_token.specs.Groups.{is_sign, is_close}
-use Rattle.tk_expand.specs.Arguments.{after_spaces}
-use Rattle.tk_define.specs.Parts.{is_open, is_param, is_digit, word_of, digit_of, misfit, Read, read, next_token, behind, said_by}
+use Rattle.tk_token.specs.Answers.{Answer, ◌>>=◌, fault}
+use Rattle.tk_token.specs.Characters.{star, left_bracket, right_bracket}
+use Rattle.tk_token.specs.Kinds.{is_char, is_open, is_close, is_param}
+use Rattle.tk_store.specs.Bodies.{digit_of}
+use Rattle.tk_expand.specs.Unread.{Unread, past_spaces}
+use Rattle.tk_expand.specs.Reading.{Read, read, next_token, after_token, token_value}
+
+-- the number of a control word
+abbrev pub word_of : Kind → Option ℕ
+word_of (Word w) = Some w
+word_of _ = None
+
+-- the character of that digit
+abbrev pub digit : ℕ → ℕ
+digit n = 48 + n
 
 -- ---- the parameters of `\def` (Knuth, TeX: The Program, sections 474 to 476, for parameters that nothing delimits)
 
 -- The parameters, up to the `{` of the body: how many there are, where so many were read, and so many more can come.
-unfoldable pub parameters : ℕ → ℕ → ℕ → List Tok → Answer (Read ℕ)
-parameters end count zero ts = do
-  rest ← behind is_open end ts
-  Ok (read count rest)
-parameters end count (suc more) ts = do
-  next ← next_token end ts
+unfoldable pub parameters : ℕ → ℕ → Unread → Answer (Read ℕ)
+parameters count zero list = do
+  inside ← after_token MacroSyntax is_open list
+  Ok (read count inside)
+parameters count (suc more) list = do
+  next ← next_token MacroSyntax list
   if is_param next.value.kind
-      then (behind (is_digit (count + 1)) end next.rest >>= λ rest. parameters end (suc count) more rest)
-      else (behind is_open end ts >>= λ rest. Ok (read count rest))
+      then (do
+        behind ← after_token MacroSyntax (is_char (digit (count + 1))) next.list
+        parameters (suc count) more behind)
+      else (do
+        inside ← after_token MacroSyntax is_open list
+        Ok (read count inside))
 
 -- ---- the parts of `\newcommand`, before each of which Spaces may stand
 
 -- the first token of the name: a `*` may stand before it
-unfoldable pub name_start : ℕ → List Tok → Answer (Read Tok)
-name_start end ts = do
-  first ← next_token end (after_spaces ts)
-  if is_sign 42 first.value.kind then next_token end (after_spaces first.rest) else Ok first
+unfoldable pub name_start : Unread → Answer (Read Tok)
+name_start list = do
+  first ← next_token MacroSyntax (past_spaces list)
+  if is_char star first.value.kind then next_token MacroSyntax (past_spaces first.list) else Ok first
 
 -- the name in braces, whose `{` was read
-unfoldable pub braced_name : ℕ → List Tok → Answer (Read ℕ)
-braced_name end ts = do
-  word ← said_by word_of end (after_spaces ts)
-  rest ← behind is_close end (after_spaces word.rest)
-  Ok (read word.value rest)
+unfoldable pub braced_name : Unread → Answer (Read ℕ)
+braced_name list = do
+  word ← token_value MacroSyntax word_of (past_spaces list)
+  behind ← after_token MacroSyntax is_close (past_spaces word.list)
+  Ok (read word.value behind)
 
--- the name that begins with a token of that kind
-abbrev pub name_from : ℕ → Kind → ℕ → List Tok → Answer (Read ℕ)
-name_from end (Word w) at ts = Ok (read w ts)
-name_from end Open at ts = braced_name end ts
-name_from end _ at ts = misfit at
+-- the name that begins with a token of that kind, at that place
+abbrev pub name_from : Kind → ℕ → Unread → Answer (Read ℕ)
+name_from (Word w) at list = Ok (read w list)
+name_from Open at list = braced_name list
+name_from _ at list = fault MacroSyntax at
 
 -- the name, plain or in braces
-unfoldable pub name_of : ℕ → List Tok → Answer (Read ℕ)
-name_of end ts = do
-  first ← name_start end ts
-  name_from end first.value.kind first.value.at first.rest
+unfoldable pub name_of : Unread → Answer (Read ℕ)
+name_of list = do
+  first ← name_start list
+  name_from first.value.kind first.value.at first.list
 
 -- the number of arguments in brackets, whose `[` was read, up to the `{` of the body
-unfoldable pub bracketed_count : ℕ → List Tok → Answer (Read ℕ)
-bracketed_count end ts = do
-  digit ← said_by digit_of end (after_spaces ts)
-  rest ← behind (is_sign 93) end (after_spaces digit.rest)
-  inside ← behind is_open end (after_spaces rest)
-  Ok (read digit.value inside)
+unfoldable pub bracketed_count : Unread → Answer (Read ℕ)
+bracketed_count list = do
+  count ← token_value MacroSyntax digit_of (past_spaces list)
+  behind ← after_token MacroSyntax (is_char right_bracket) (past_spaces count.list)
+  inside ← after_token MacroSyntax is_open (past_spaces behind)
+  Ok (read count.value inside)
 
--- the number of arguments that begins with a token of that kind; none is 0
-abbrev pub count_from : ℕ → Kind → ℕ → List Tok → Answer (Read ℕ)
-count_from end Open at ts = Ok (read 0 ts)
-count_from end (Char c) at ts = if c == 91 then bracketed_count end ts else misfit at
-count_from end _ at ts = misfit at
+-- the number of arguments that begins with a token of that kind, at that place; none is 0
+abbrev pub count_from : Kind → ℕ → Unread → Answer (Read ℕ)
+count_from Open at list = Ok (read 0 list)
+count_from (Char c) at list = if c == left_bracket then bracketed_count list else fault MacroSyntax at
+count_from _ at list = fault MacroSyntax at
 
 -- the number of arguments, up to the `{` of the body
-unfoldable pub count_of : ℕ → List Tok → Answer (Read ℕ)
-count_of end ts = do
-  first ← next_token end (after_spaces ts)
-  count_from end first.value.kind first.value.at first.rest
+unfoldable pub count_of : Unread → Answer (Read ℕ)
+count_of list = do
+  first ← next_token MacroSyntax (past_spaces list)
+  count_from first.value.kind first.value.at first.list

@@ -1,6 +1,2 @@
-pub mod Parts
-pub mod Heads
-pub mod Bodies
 pub mod Definitions
-pub mod Wanted
-pub mod Fronts
+pub mod Heads

@@ -11,8 +11,9 @@ use Rattle.tk_token.specs.Groups.{Cut, cut}
 use Rattle.tk_token.specs.Refusals.{Fails}
 use Rattle.tk_token.proofs.Answering.{fails_then, fails_as}
 use Rattle.tk_store.specs.declared.Macro.{Macro}
-use Rattle.tk_expand.specs.Arguments.{argument_of, Arguments, given, arguments_of, meant_by, with_arguments, text_of}
-use Rattle.tk_expand.specs.Expand.{pay, cost_of, left, replaced}
+use Rattle.tk_expand.specs.Arguments.{argument_of, Arguments, given, arguments_of, put_in, with_arguments, call_text}
+use Rattle.tk_expand.specs.Unread.{unread}
+use Rattle.tk_expand.specs.Expand.{pay, cost_of, Stream, stream, replaced}
 use Rattle.tk_expand.specs.Texts.{texts_of}
 
 -- arguments that were taken stand before those of the answer
@@ -51,7 +52,7 @@ module _ (at n : ℕ) (texts : List (List Tok)) (rest : List Tok) (answer : Answ
         joined (Err e) = refl
 
 -- without arguments each token of a body stands for itself
-itself : (k : Kind) (t : Tok) → meant_by [] k t ≡ t ∷ []
+itself : (k : Kind) (t : Tok) → put_in [] k t ≡ t ∷ []
 itself (Arg n) t = refl
 itself (Char c) t = refl
 itself (Word w) t = refl
@@ -71,10 +72,10 @@ shared [] body none = sym (without_arguments body)
 shared (a ∷ arguments) body none = absurd (omega (arith, none))
 
 -- a call whose arguments are known is replaced where it is paid for
-pub replaced_by : (budget units : ℕ) (called : Macro) (at : ℕ) (ts : List Tok) (texts : List (List Tok)) (rest : List Tok) → arguments_of at called.args ts ≡ Ok (given texts rest) → (texts' : List (List Tok)) → texts' ≡ texts → (body : List Tok) → body ≡ called.body → (paid : Answer ℕ) → pay budget units (cost_of (with_arguments texts' body)) at ≡ paid → replaced budget units called at ts ≡ (paid >>= λ paid. Ok (left paid (with_arguments texts' body ++ rest)))
-unfolding replaced text_of
-replaced_by budget units called at ts texts rest known texts' same body of_it paid pays =
-    ap (λ (a : Answer Arguments). (a >>= λ a. Ok (cut (with_arguments a.texts called.body) a.rest)) >>= λ text. pay budget units (cost_of text.front) at >>= λ paid. Ok (left paid (text.front ++ text.rest))) known
-    ∙ ap (λ (ts : List (List Tok)). pay budget units (cost_of (with_arguments ts called.body)) at >>= λ paid. Ok (left paid (with_arguments ts called.body ++ rest))) (sym same)
-    ∙ ap (λ (body : List Tok). pay budget units (cost_of (with_arguments texts' body)) at >>= λ paid. Ok (left paid (with_arguments texts' body ++ rest))) (sym of_it)
-    ∙ ap (λ (p : Answer ℕ). p >>= λ paid. Ok (left paid (with_arguments texts' body ++ rest))) pays
+pub replaced_by : (budget : ℕ) (called : Macro) (at : ℕ) (s : Stream) (texts : List (List Tok)) (rest : List Tok) → arguments_of at called.args s.list.rest ≡ Ok (given texts rest) → (texts' : List (List Tok)) → texts' ≡ texts → (body : List Tok) → body ≡ called.body → (paid : Answer ℕ) → pay budget s.units (cost_of (with_arguments texts' body)) at ≡ paid → replaced budget called at s ≡ (paid >>= λ paid. Ok (stream paid (unread (with_arguments texts' body ++ rest) s.list.end)))
+unfolding replaced call_text
+replaced_by budget called at s texts rest known texts' same body of_it paid pays =
+    ap (λ (a : Answer Arguments). (a >>= λ a. Ok (cut (with_arguments a.texts called.body) a.rest)) >>= λ text. pay budget s.units (cost_of text.front) at >>= λ paid. Ok (stream paid (unread (text.front ++ text.rest) s.list.end))) known
+    ∙ ap (λ (ts : List (List Tok)). pay budget s.units (cost_of (with_arguments ts called.body)) at >>= λ paid. Ok (stream paid (unread (with_arguments ts called.body ++ rest) s.list.end))) (sym same)
+    ∙ ap (λ (body : List Tok). pay budget s.units (cost_of (with_arguments texts' body)) at >>= λ paid. Ok (stream paid (unread (with_arguments texts' body ++ rest) s.list.end))) (sym of_it)
+    ∙ ap (λ (p : Answer ℕ). p >>= λ paid. Ok (stream paid (unread (with_arguments texts' body ++ rest) s.list.end))) pays

@@ -1,5 +1,5 @@
 -- One turn of an expansion.
-use Rattle.std.proofs.Common.{◌≡◌, ℕ, ◌+◌, ◌-◌, ◌<◌, List, [], ◌∷◌, ◌++◌, length, Some, None, Ok, Err, refl, sym, ap, subst, ◌∙◌, append_assoc, arith}
+use Rattle.std.proofs.Common.{◌≡◌, ℕ, ◌+◌, ◌-◌, ◌<◌, List, [], ◌∷◌, ◌++◌, length, Option, Some, None, Ok, Err, refl, sym, ap, subst, ◌∙◌, append_assoc, arith}
 use Rattle.std.proofs.lemmas.List.{append-nil}
 use Rattle.tk_token.specs.declared.Kind.{Kind}
 use Rattle.tk_token.specs.declared.Kind.TheVariants.{Char, Word, Symbol, Open, Close, Param, Arg, Space}
@@ -10,8 +10,11 @@ use Rattle.tk_token.specs.Refusals.{Fails}
 use Rattle.tk_token.proofs.Answering.{fails_then, fails_as, then_is, known_of}
 use Rattle.tk_store.specs.declared.Macro.{Macro}
 use Rattle.tk_store.specs.Levels.{Macros}
-use Rattle.tk_expand.specs.Expand.{Left, left, called_by, replaced, front_token, front, full_list, full}
-use Rattle.tk_expand.proofs.Expanded.{Spends, replaced_falls, front_is, full_is}
+use Rattle.tk_expand.specs.Unread.{Unread, unread}
+use Rattle.tk_expand.specs.Expand.{Stream, stream, with_rest, work, called_by, replaced, front_token, front_list, front, full_list, full}
+use Rattle.tk_expand.specs.Reading.{Next, taken, first_taken, next}
+use Rattle.tk_expand.proofs.Falling.{Spends, call_less, replaced_spends, front_is, full_is}
+use Rattle.tk_expand.proofs.Finished.{front_ends, front_stops}
 
 -- what is no control word calls nothing
 pub no_word : (macros : Macros) (k : Kind) → ((w : ℕ) → k ≡ Word w → ⊥) → called_by macros k ≡ None
@@ -24,61 +27,97 @@ no_word macros Param h = refl
 no_word macros (Arg n) h = refl
 no_word macros Space h = refl
 
+-- ---- the next token
+
+module _ (budget : ℕ) (macros : Macros) (s : Stream) where
+  -- nothing is left
+  pub next_ends : s.list.rest ≡ [] → next budget macros s ≡ Ok (taken None s)
+  unfolding next
+  next_ends none = then_is (front budget macros s) (λ a. Ok (first_taken a a.list.rest)) s (front_ends budget macros s none) ∙ ap (λ (ts : List Tok). (let r : Answer Next = Ok (first_taken s ts) in r)) none
+
+  -- a token is in front; the list behind it ends at the same place
+  module _ (t : Tok) (list : Unread) (is : s.list.rest ≡ t ∷ list.rest) (end : list.end ≡ s.list.end) where
+    behind : with_rest s list.rest ≡ stream s.units list
+    behind = ap (λ (e : ℕ). stream s.units (unread list.rest e)) (sym end)
+
+    -- it calls nothing
+    pub next_stops : called_by macros t.kind ≡ None → next budget macros s ≡ Ok (taken (Some t) (stream s.units list))
+    unfolding next
+    next_stops calls =
+        then_is (front budget macros s) (λ a. Ok (first_taken a a.list.rest)) s (front_stops budget macros s t list.rest is calls)
+        ∙ ap (λ (ts : List Tok). (let r : Answer Next = Ok (first_taken s ts) in r)) is
+        ∙ ap (λ (r : Stream). (let a : Answer Next = Ok (taken (Some t) r) in a)) behind
+
+    -- it is a call
+    module _ (called : Macro) (calls : called_by macros t.kind ≡ Some called) where
+      front_calls : front budget macros s ≡ (replaced budget called t.at (stream s.units list) >>= front budget macros)
+      front_calls =
+          front_is budget macros s ∙ ap (front_list budget macros (front budget macros) s) is ∙ ap (front_token budget macros (front budget macros) s t list.rest) calls
+          ∙ ap (λ (r : Stream). replaced budget called t.at r >>= front budget macros) behind
+
+      pub next_fails : (e : Refusal) → Fails e (replaced budget called t.at (stream s.units list)) → Fails e (next budget macros s)
+      unfolding next
+      next_fails e h =
+          fails_then e (front budget macros s) _ (fails_as e _ _ front_calls (fails_then e (replaced budget called t.at (stream s.units list)) (front budget macros) h))
+
+      module _ (r : Stream) (known : replaced budget called t.at (stream s.units list) ≡ Ok r) where
+        pub next_goes : next budget macros s ≡ next budget macros r
+        unfolding next
+        next_goes = ap (λ (m : Answer Stream). m >>= λ a. Ok (first_taken a a.list.rest)) (front_calls ∙ then_is (replaced budget called t.at (stream s.units list)) (front budget macros) r known)
+
+        pub call_spends : (s.units < r.units) × (work budget r < work budget s)
+        call_spends =
+            let p = known_of (Spends budget (stream s.units list)) (replaced budget called t.at (stream s.units list)) r known (replaced_spends budget called t.at (stream s.units list)) in
+            (p.units, (let a = p.work_falls in omega (arith, ap length is)))
+
+-- ---- a full expansion
+
 -- tokens that were taken stand before those of the answer
-abbrev pub with_kept : List Tok → Answer Left → Answer Left
-with_kept ts answer = answer >>= λ l. Ok (left l.units (ts ++ l.rest))
+abbrev pub with_kept : List Tok → Answer Stream → Answer Stream
+with_kept ts answer = answer >>= λ r. Ok (with_rest r (ts ++ r.list.rest))
 
 -- none was taken yet
-pub none_kept : (answer : Answer Left) → answer ≡ with_kept [] answer
-none_kept (Ok l) = refl
+pub none_kept : (answer : Answer Stream) → answer ≡ with_kept [] answer
+none_kept (Ok r) = refl
 none_kept (Err e) = refl
 
-module _ (budget : ℕ) (macros : Macros) (units : ℕ) (rest : List Tok) where
-  -- nothing is left
-  pub front_nothing : rest ≡ [] → front budget macros (left units rest) ≡ Ok (left units [])
-  front_nothing none = ap (λ (ts : List Tok). front budget macros (left units ts)) none ∙ front_is budget macros (left units [])
+module _ (budget : ℕ) (macros : Macros) where
+  -- what follows the next token of a full expansion
+  abbrev full_from : Option Tok → Stream → Answer Stream
+  full_from None s = Ok s
+  full_from (Some t) s = full budget macros s >>= λ more. Ok (with_rest more (t ∷ more.list.rest))
 
-  module _ (t : Tok) (ts : List Tok) (is : rest ≡ t ∷ ts) where
-    -- the token in front calls nothing
-    pub front_stops : called_by macros t.kind ≡ None → front budget macros (left units rest) ≡ Ok (left units (t ∷ ts))
-    front_stops calls = ap (λ (ts : List Tok). front budget macros (left units ts)) is ∙ front_is budget macros (left units (t ∷ ts)) ∙ ap (front_token budget macros (front budget macros) units t ts) calls
+  list_by_next : (s : Stream) (ts : List Tok) → full_list budget macros (full budget macros) s ts ≡ full_from (first_taken s ts).token (first_taken s ts).stream
+  list_by_next s [] = refl
+  list_by_next s (t ∷ ts) = refl
 
-    -- the token in front is a call; b is the budget
-    module _ (called : Macro) (calls : called_by macros t.kind ≡ Some called) (b : ℕ) (same : b ≡ budget) where
-      front_calls : front budget macros (left units rest) ≡ (replaced budget units called t.at ts >>= front budget macros)
-      front_calls = ap (λ (ts : List Tok). front budget macros (left units ts)) is ∙ front_is budget macros (left units (t ∷ ts)) ∙ ap (front_token budget macros (front budget macros) units t ts) calls
+  by_next : (m : Answer Stream) → (m >>= λ a. full_list budget macros (full budget macros) a a.list.rest) ≡ ((m >>= λ a. let n : Answer Next = Ok (first_taken a a.list.rest) in n) >>= λ n. full_from n.token n.stream)
+  by_next (Ok a) = list_by_next a a.list.rest
+  by_next (Err e) = refl
 
-      pub front_fails : (e : Refusal) → Fails e (replaced b units called t.at ts) → Fails e (front budget macros (left units rest))
-      front_fails e h =
-          fails_as e _ _ front_calls (fails_then e (replaced budget units called t.at ts) (front budget macros) (subst (λ (b : ℕ). Fails e (replaced b units called t.at ts)) same h))
+  full_by_next : (s : Stream) → full budget macros s ≡ (next budget macros s >>= λ n. full_from n.token n.stream)
+  unfolding next
+  full_by_next s = full_is budget macros s ∙ by_next (front budget macros s)
 
-      module _ (l : Left) (known : replaced b units called t.at ts ≡ Ok l) where
-        pub front_goes : front budget macros (left units rest) ≡ front budget macros l
-        front_goes = front_calls ∙ then_is (replaced budget units called t.at ts) (front budget macros) l (ap (λ (b : ℕ). replaced b units called t.at ts) (sym same) ∙ known)
+  -- A full expansion so far: the answer is that of what is left, with the tokens before it that were taken.
+  module _ (now : Stream) (out : List Tok) (answer : Answer Stream) (told : answer ≡ with_kept out (full budget macros now)) where
+    -- one token is taken
+    pub full_takes : (t : Tok) (r : Stream) (new : List Tok) → next budget macros now ≡ Ok (taken (Some t) r) → new ≡ out ++ t ∷ [] → answer ≡ with_kept new (full budget macros r)
+    full_takes t r new is pushed =
+        told ∙ ap (with_kept out) (full_by_next now ∙ then_is (next budget macros now) (λ n. full_from n.token n.stream) (taken (Some t) r) is)
+        ∙ joined (full budget macros r) ∙ ap (λ (o : List Tok). with_kept o (full budget macros r)) (sym pushed)
+      where
+        joined : (m : Answer Stream) → with_kept out (m >>= λ more. Ok (with_rest more (t ∷ more.list.rest))) ≡ with_kept (out ++ t ∷ []) m
+        joined (Ok q) = ap (λ (f : List Tok). (let x : Answer Stream = Ok (with_rest q f) in x)) (sym (append_assoc out (t ∷ []) q.list.rest))
+        joined (Err e) = refl
 
-        pub call_spends : (units < l.units) × ((b - l.units) + length l.rest < (b - units) + length rest)
-        call_spends =
-            let p = known_of (Spends b macros units ts) (replaced b units called t.at ts) l known (replaced_falls b macros units called t.at ts) in
-            (p.0, omega (arith, p.1, ap length is))
+    -- no token is left
+    pub full_ends : (r : Stream) → next budget macros now ≡ Ok (taken None r) → r.list.rest ≡ [] → answer ≡ Ok (with_rest r out)
+    full_ends r is none =
+        told ∙ ap (with_kept out) (full_by_next now ∙ then_is (next budget macros now) (λ n. full_from n.token n.stream) (taken None r) is)
+        ∙ ap (λ (ts : List Tok). (let x : Answer Stream = Ok (with_rest r (out ++ ts)) in x)) none
+        ∙ ap (λ (ts : List Tok). (let x : Answer Stream = Ok (with_rest r ts) in x)) (append-nil out)
 
--- A full expansion so far: the answer is that of what is left, with the tokens before it that were taken; b is the budget.
-module _ (budget : ℕ) (macros : Macros) (now : Left) (b : ℕ) (same : b ≡ budget) (out : List Tok) (answer : Answer Left) (told : answer ≡ with_kept out (full budget macros now)) where
-  -- one token is taken
-  pub full_takes : (units : ℕ) (t : Tok) (ts new : List Tok) → front b macros now ≡ Ok (left units (t ∷ ts)) → new ≡ out ++ t ∷ [] → answer ≡ with_kept new (full budget macros (left units ts))
-  full_takes units t ts new is pushed =
-      told ∙ ap (with_kept out) (full_is budget macros now ∙ then_is (front budget macros now) (λ f. full_list budget macros (full budget macros) f.units f.rest) (left units (t ∷ ts)) (ap (λ (b : ℕ). front b macros now) (sym same) ∙ is))
-      ∙ joined (full budget macros (left units ts)) ∙ ap (λ (o : List Tok). with_kept o (full budget macros (left units ts))) (sym pushed)
-    where
-      joined : (r : Answer Left) → with_kept out (r >>= λ more. Ok (left more.units (t ∷ more.rest))) ≡ with_kept (out ++ t ∷ []) r
-      joined (Ok r) = ap (λ (f : List Tok). (let x : Answer Left = Ok (left r.units f) in x)) (sym (append_assoc out (t ∷ []) r.rest))
-      joined (Err e) = refl
-
-  -- no token is left
-  pub full_ends : (units : ℕ) → front b macros now ≡ Ok (left units []) → answer ≡ Ok (left units out)
-  full_ends units is =
-      told ∙ ap (with_kept out) (full_is budget macros now ∙ then_is (front budget macros now) (λ f. full_list budget macros (full budget macros) f.units f.rest) (left units []) (ap (λ (b : ℕ). front b macros now) (sym same) ∙ is))
-      ∙ ap (λ (o : List Tok). (let x : Answer Left = Ok (left units o) in x)) (append-nil out)
-
-  pub full_fails : (e : Refusal) → Fails e (front b macros now) → Fails e answer
-  full_fails e h =
-      fails_as e answer _ told (fails_then e (full budget macros now) _ (fails_as e _ _ (full_is budget macros now) (fails_then e (front budget macros now) _ (subst (λ (b : ℕ). Fails e (front b macros now)) same h))))
+    pub full_fails : (e : Refusal) → Fails e (next budget macros now) → Fails e answer
+    full_fails e h =
+        fails_as e answer _ told (fails_then e (full budget macros now) _ (fails_as e _ _ (full_by_next now) (fails_then e (next budget macros now) _ h)))

@@ -1,5 +1,5 @@
 -- How long arguments are, and what stands behind them.
-use Rattle.std.specs.Prelude.{◌≡◌, ℕ, zero, suc, ◌+◌, ◌<◌, ◌≤◌, Bool, true, false, ◌&&◌, ◌==◌, if◌then◌else◌, List, [], ◌∷◌, length, Option, Some, None, Ok, IfSome, IfOk}
+use Rattle.std.specs.Prelude.{◌≡◌, ℕ, zero, suc, ◌+◌, ◌≤◌, ◌<◌, List, [], ◌∷◌, length, Option, Some, None, Ok, IfSome, IfOk}
 use Rattle.std.specs.List.{prefix_len}
 use Rattle.std.proofs.Common.{arith, length-drop}
 use Rattle.tk_token.specs.declared.Kind.{Kind}
@@ -7,32 +7,16 @@ use Rattle.tk_token.specs.declared.Kind.TheVariants.{Char, Word, Symbol, Open, C
 use Rattle.tk_token.specs.declared.Tok.{Tok}
 use Rattle.tk_token.specs.declared.Code.TheVariants.{MacroArg}
 use Rattle.tk_token.specs.Answers.{or_fault}
-use Rattle.tk_token.specs.Groups.{Cut, cut, with_first, is_close, depth_after, before_in}
+use Rattle.tk_token.specs.Groups.{Cut, group_of}
+use Rattle.tk_token.specs.Spaces.{is_space_token, after_spaces}
 use Rattle.tk_token.proofs.Answering.{then_holds, or_fault_holds, known_of}
+use Rattle.tk_token.proofs.Outside.{group_shorter}
 use Rattle.tk_store.specs.declared.Macro.{Macro}
-use Rattle.tk_expand.specs.Arguments.{is_space, after_spaces, argument_from, argument_in, argument_of, Arguments, arguments_of, text_of}
+use Rattle.tk_expand.specs.Arguments.{argument_from, argument_in, argument_of, Arguments, arguments_of, call_text}
 
--- the front and the rest are fewer tokens than were there
-abbrev pub IsShorter : List Tok → Cut → Type 0
-IsShorter ts c = length c.front + length c.rest < length ts
-
--- they are no more tokens than were there
+-- the front and the rest are no more tokens than were there
 abbrev pub IsNoLonger : List Tok → Cut → Type 0
 IsNoLonger ts c = length c.front + length c.rest ≤ length ts
-
-chosen : (P : Cut → Type 0) (b : Bool) (x y : Option Cut) → IfSome x P → IfSome y P → IfSome (if b then x else y) P
-chosen P true x y h k = h
-chosen P false x y h k = k
-
-with_first_shorter : (t : Tok) (ts : List Tok) (c : Option Cut) → IfSome c (IsShorter ts) → IfSome (with_first t c) (IsShorter (t ∷ ts))
-with_first_shorter t ts None h = tt
-with_first_shorter t ts (Some c) h = omega arith
-
-pub before_shorter : (wanted : Kind → Bool) (depth : ℕ) (ts : List Tok) → IfSome (before_in wanted depth ts) (IsShorter ts)
-unfolding before_in
-before_shorter wanted depth [] = tt
-before_shorter wanted depth (t ∷ ts) =
-    chosen (IsShorter (t ∷ ts)) (depth == 0 && wanted t.kind) (Some (cut [] ts)) _ (omega arith) (chosen (IsShorter (t ∷ ts)) (depth == 0 && is_close t.kind) None _ tt (with_first_shorter t ts (before_in wanted (depth_after depth t.kind) ts) (before_shorter wanted (depth_after depth t.kind) ts)))
 
 longer : (ts us : List Tok) (c : Option Cut) → length ts ≤ length us → IfSome c (IsNoLonger ts) → IfSome c (IsNoLonger us)
 longer ts us None le h = tt
@@ -46,9 +30,9 @@ argument_from_no_longer Param t ts = omega arith
 argument_from_no_longer (Arg n) t ts = omega arith
 argument_from_no_longer Space t ts = omega arith
 argument_from_no_longer Close t ts = tt
-argument_from_no_longer Open t ts = less (before_in is_close 0 ts) (before_shorter is_close 0 ts)
+argument_from_no_longer Open t ts = less (group_of ts) (group_shorter ts)
   where
-    less : (c : Option Cut) → IfSome c (IsShorter ts) → IfSome c (IsNoLonger (t ∷ ts))
+    less : (c : Option Cut) → IfSome c (λ c. length c.front + length c.rest < length ts) → IfSome c (IsNoLonger (t ∷ ts))
     less None h = tt
     less (Some c) h = omega arith
 
@@ -59,7 +43,7 @@ argument_in_no_longer (t ∷ ts) = argument_from_no_longer t.kind t ts
 -- an argument and what stands behind it
 pub argument_no_longer : (ts : List Tok) → IfSome (argument_of ts) (IsNoLonger ts)
 argument_no_longer ts =
-    longer (after_spaces ts) ts (argument_in (after_spaces ts)) (omega (arith, length-drop (prefix_len (λ (t : Tok). is_space t.kind) ts) ts)) (argument_in_no_longer (after_spaces ts))
+    longer (after_spaces ts) ts (argument_in (after_spaces ts)) (omega (arith, length-drop (prefix_len is_space_token ts) ts)) (argument_in_no_longer (after_spaces ts))
 
 -- what stands behind so many arguments
 pub arguments_no_longer : (at n : ℕ) (ts : List Tok) → IfOk (arguments_of at n ts) (λ a. length a.rest ≤ length ts)
@@ -70,8 +54,8 @@ arguments_no_longer at (suc n) ts =
     then_holds (λ (a : Arguments). length a.rest ≤ length first.rest) (λ (a : Arguments). length a.rest ≤ length ts) (arguments_of at n first.rest) _ (arguments_no_longer at n first.rest) (λ more k. omega arith))
 
 -- what stands behind a call
-pub text_rest : (called : Macro) (at : ℕ) (ts : List Tok) → IfOk (text_of called at ts) (λ c. length c.rest ≤ length ts)
-unfolding text_of
+pub text_rest : (called : Macro) (at : ℕ) (ts : List Tok) → IfOk (call_text called at ts) (λ c. length c.rest ≤ length ts)
+unfolding call_text
 text_rest called at ts =
     then_holds (λ (a : Arguments). length a.rest ≤ length ts) (λ (c : Cut). length c.rest ≤ length ts) (arguments_of at called.args ts) _ (arguments_no_longer at called.args ts) (λ a h. h)
 

@@ -1,9 +1,12 @@
 pub mod Calls
-pub mod Expanded
+pub mod Falling
 pub mod Finished
 pub mod Fronts
-pub mod Groups
 pub mod Lengths
+pub mod Moved
+pub mod NextPlaces
 pub mod Places
-pub mod Spaces
 pub mod Stacks
+pub mod Stopping
+pub mod Taking
+pub mod Written

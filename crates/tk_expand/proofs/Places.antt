@@ -8,12 +8,14 @@ use Rattle.tk_token.specs.declared.Kind.TheVariants.{Char, Word, Symbol, Open, C
 use Rattle.tk_token.specs.declared.Tok.{Tok}
 use Rattle.tk_token.specs.declared.Code.TheVariants.{MacroArg, Budget}
 use Rattle.tk_token.specs.Answers.{Answer, ◌>>=◌, fault, or_fault}
-use Rattle.tk_token.specs.Groups.{Cut, cut, with_first, is_close, depth_after, before_in}
+use Rattle.tk_token.specs.Groups.{Cut, cut, group_of}
+use Rattle.tk_token.specs.Spaces.{is_space_token, after_spaces}
+use Rattle.tk_token.proofs.Outside.{group_keeps}
 use Rattle.tk_store.specs.declared.Macro.{Macro}
 use Rattle.tk_store.specs.Levels.{Macros}
-use Rattle.tk_expand.specs.Arguments.{is_space, after_spaces, argument_from, argument_in, argument_of, Arguments, arguments_of, meant_by, with_arguments, text_of}
-use Rattle.tk_expand.specs.Expand.{pay, cost_of, Left, left, called_by, replaced, front_token, front_list, work, front, full_list, full}
-use Rattle.tk_expand.proofs.Expanded.{Falls, Spends, replaced_falls, front_falls, front_is, full_is}
+use Rattle.tk_expand.specs.Arguments.{argument_from, argument_in, argument_of, Arguments, arguments_of, put_in, with_arguments, call_text}
+use Rattle.tk_expand.specs.Expand.{pay, cost_of, Stream, with_rest, called_by, replaced, front_token, front_list, work, front, full_list, full}
+use Rattle.tk_expand.proofs.Falling.{Falls, Spends, call_less, replaced_spends, front_falls, front_is, full_is}
 
 module _ (P : ℕ → Type 0) where
   -- each token stands at such a place
@@ -24,11 +26,11 @@ module _ (P : ℕ → Type 0) where
   abbrev pub Stands : {A : Type 0} → (A → Type 0) → Answer A → Type 0
   Stands Q answer = MatchResult answer Q (λ f. P f.at)
 
-  then_stands : {A B : Type 0} (Q : A → Type 0) (R : B → Type 0) (m : Answer A) (f : A → Answer B) → Stands Q m → ((x : A) → Q x → Stands R (f x)) → Stands R (m >>= f)
+  pub then_stands : {A B : Type 0} (Q : A → Type 0) (R : B → Type 0) (m : Answer A) (f : A → Answer B) → Stands Q m → ((x : A) → Q x → Stands R (f x)) → Stands R (m >>= f)
   then_stands Q R (Ok x) f h k = k x h
   then_stands Q R (Err e) f h k = h
 
-  also : {A : Type 0} (Q R : A → Type 0) (m : Answer A) → Stands Q m → IfOk m R → Stands (λ x. Q x × R x) m
+  pub also : {A : Type 0} (Q R : A → Type 0) (m : Answer A) → Stands Q m → IfOk m R → Stands (λ x. Q x × R x) m
   also Q R (Ok x) h k = (h, k)
   also Q R (Err e) h k = h
 
@@ -45,22 +47,8 @@ module _ (P : ℕ → Type 0) where
   abbrev pub CutAt : Cut → Type 0
   CutAt c = StandAt c.front × StandAt c.rest
 
-  chosen : (b : Bool) (x y : Option Cut) → IfSome x CutAt → IfSome y CutAt → IfSome (if b then x else y) CutAt
-  chosen true x y h k = h
-  chosen false x y h k = k
-
-  with_first_at : (t : Tok) (c : Option Cut) → P t.at → IfSome c CutAt → IfSome (with_first t c) CutAt
-  with_first_at t None h k = tt
-  with_first_at t (Some c) h k = ((h, k.0), k.1)
-
-  pub before_at : (wanted : Kind → Bool) (depth : ℕ) (ts : List Tok) → StandAt ts → IfSome (before_in wanted depth ts) CutAt
-  unfolding before_in
-  before_at wanted depth [] h = tt
-  before_at wanted depth (t ∷ ts) h =
-      chosen (depth == 0 && wanted t.kind) (Some (cut [] ts)) _ (tt, h.1) (chosen (depth == 0 && is_close t.kind) None _ tt (with_first_at t (before_in wanted (depth_after depth t.kind) ts) h.0 (before_at wanted (depth_after depth t.kind) ts h.1)))
-
   argument_from_at : (k : Kind) (t : Tok) (ts : List Tok) → P t.at → StandAt ts → IfSome (argument_from k t ts) CutAt
-  argument_from_at Open t ts h k = before_at is_close 0 ts k
+  argument_from_at Open t ts h k = group_keeps (λ (t : Tok). P t.at) ts k
   argument_from_at Close t ts h k = tt
   argument_from_at (Char c) t ts h k = ((h, tt), k)
   argument_from_at (Word w) t ts h k = ((h, tt), k)
@@ -75,7 +63,7 @@ module _ (P : ℕ → Type 0) where
 
   -- an argument, or its want at such a place
   pub argument_at : (at : ℕ) (ts : List Tok) → P at → StandAt ts → Stands CutAt (or_fault (argument_of ts) MacroArg at)
-  argument_at at ts p h = go (argument_of ts) (argument_in_at (after_spaces ts) (dropped_at (prefix_len (λ (t : Tok). is_space t.kind) ts) ts h))
+  argument_at at ts p h = go (argument_of ts) (argument_in_at (after_spaces ts) (dropped_at (prefix_len is_space_token ts) ts h))
     where
       go : (c : Option Cut) → IfSome c CutAt → Stands CutAt (or_fault c MacroArg at)
       go None k = p
@@ -96,22 +84,22 @@ module _ (P : ℕ → Type 0) where
   read_at (a ∷ texts) zero t h p = h.0
   read_at (a ∷ texts) (suc n) t h p = read_at texts n t h.1 p
 
-  meant_at : (texts : List (List Tok)) (k : Kind) (t : Tok) → AllByRecursion StandAt texts → P t.at → StandAt (meant_by texts k t)
-  meant_at texts (Arg n) t h p = read_at texts (n - 1) t h p
-  meant_at texts (Char c) t h p = (p, tt)
-  meant_at texts (Word w) t h p = (p, tt)
-  meant_at texts (Symbol c) t h p = (p, tt)
-  meant_at texts Open t h p = (p, tt)
-  meant_at texts Close t h p = (p, tt)
-  meant_at texts Param t h p = (p, tt)
-  meant_at texts Space t h p = (p, tt)
+  put_at : (texts : List (List Tok)) (k : Kind) (t : Tok) → AllByRecursion StandAt texts → P t.at → StandAt (put_in texts k t)
+  put_at texts (Arg n) t h p = read_at texts (n - 1) t h p
+  put_at texts (Char c) t h p = (p, tt)
+  put_at texts (Word w) t h p = (p, tt)
+  put_at texts (Symbol c) t h p = (p, tt)
+  put_at texts Open t h p = (p, tt)
+  put_at texts Close t h p = (p, tt)
+  put_at texts Param t h p = (p, tt)
+  put_at texts Space t h p = (p, tt)
 
   pub with_arguments_at : (texts : List (List Tok)) (body : List Tok) → AllByRecursion StandAt texts → StandAt body → StandAt (with_arguments texts body)
   with_arguments_at texts [] h k = tt
-  with_arguments_at texts (t ∷ ts) h k = joined_at (meant_by texts t.kind t) (with_arguments texts ts) (meant_at texts t.kind t h k.0) (with_arguments_at texts ts h k.1)
+  with_arguments_at texts (t ∷ ts) h k = joined_at (put_in texts t.kind t) (with_arguments texts ts) (put_at texts t.kind t h k.0) (with_arguments_at texts ts h k.1)
 
-  pub text_at : (called : Macro) (at : ℕ) (ts : List Tok) → P at → StandAt called.body → StandAt ts → Stands CutAt (text_of called at ts)
-  unfolding text_of
+  pub text_at : (called : Macro) (at : ℕ) (ts : List Tok) → P at → StandAt called.body → StandAt ts → Stands CutAt (call_text called at ts)
+  unfolding call_text
   text_at called at ts p b h =
       then_stands ArgumentsAt CutAt (arguments_of at called.args ts) _ (arguments_at at called.args ts p h) (λ a k. (with_arguments_at a.texts called.body k.0 b, k.1))
 
@@ -122,14 +110,14 @@ module _ (P : ℕ → Type 0) where
       go true = p
       go false = tt
 
-  abbrev pub LeftAt : Left → Type 0
-  LeftAt l = StandAt l.rest
+  abbrev pub StreamAt : Stream → Type 0
+  StreamAt s = StandAt s.list.rest
 
-  pub replaced_at : (budget units : ℕ) (called : Macro) (at : ℕ) (ts : List Tok) → P at → StandAt called.body → StandAt ts → Stands LeftAt (replaced budget units called at ts)
+  pub replaced_at : (budget : ℕ) (called : Macro) (at : ℕ) (s : Stream) → P at → StandAt called.body → StreamAt s → Stands StreamAt (replaced budget called at s)
   unfolding replaced
-  replaced_at budget units called at ts p b h =
-      then_stands CutAt LeftAt (text_of called at ts) _ (text_at called at ts p b h) (λ c k.
-      then_stands (λ _. Unit {0}) LeftAt (pay budget units (cost_of c.front) at) _ (paid_at budget units (cost_of c.front) at p) (λ now m. joined_at c.front c.rest k.0 k.1))
+  replaced_at budget called at s p b h =
+      then_stands CutAt StreamAt (call_text called at s.list.rest) _ (text_at called at s.list.rest p b h) (λ c k.
+      then_stands (λ _. Unit {0}) StreamAt (pay budget s.units (cost_of c.front) at) _ (paid_at budget s.units (cost_of c.front) at p) (λ now m. joined_at c.front c.rest k.0 k.1))
 
   -- each body has its tokens at such places
   abbrev pub BodiesAt : Macros → Type 0
@@ -147,28 +135,28 @@ module _ (P : ℕ → Type 0) where
     body_at Space called is = absurd cc
 
     -- what holds where it holds of all that has less work left
-    by_work : (Q : Left → Type 0) → ((l : Left) → ((m : Left) → work budget macros m < work budget macros l → Q m) → Q l) → (n : ℕ) (l : Left) → work budget macros l < n → Q l
-    by_work Q step zero l lt = absurd (omega arith)
-    by_work Q step (suc n) l lt = step l (λ m less. by_work Q step n m (omega arith))
+    pub by_work : (Q : Stream → Type 0) → ((s : Stream) → ((r : Stream) → work budget r < work budget s → Q r) → Q s) → (n : ℕ) (s : Stream) → work budget s < n → Q s
+    by_work Q step zero s lt = absurd (omega arith)
+    by_work Q step (suc n) s lt = step s (λ r less. by_work Q step n r (omega arith))
 
-    token_at : (rec : Left → Answer Left) (units : ℕ) (t : Tok) (ts : List Tok) (called : Option Macro) → called_by macros t.kind ≡ called → ((m : Left) → work budget macros m < (budget - units) + suc (length ts) → LeftAt m → Stands LeftAt (rec m)) → StandAt (t ∷ ts) → Stands LeftAt (front_token budget macros rec units t ts called)
-    token_at rec units t ts None is h all = all
-    token_at rec units t ts (Some called) is h all =
-        then_stands (λ (m : Left). LeftAt m × Spends budget macros units ts m) LeftAt (replaced budget units called t.at ts) _ (also LeftAt (Spends budget macros units ts) (replaced budget units called t.at ts) (replaced_at budget units called t.at ts all.0 (body_at t.kind called is) all.1) (replaced_falls budget macros units called t.at ts)) (λ m k. h m k.1.1 k.0)
+    token_at : (rec : Stream → Answer Stream) (s : Stream) (t : Tok) (ts : List Tok) → s.list.rest ≡ t ∷ ts → (called : Option Macro) → called_by macros t.kind ≡ called → ((r : Stream) → work budget r < work budget s → StreamAt r → Stands StreamAt (rec r)) → StreamAt s → StandAt (t ∷ ts) → Stands StreamAt (front_token budget macros rec s t ts called)
+    token_at rec s t ts e None is h all both = all
+    token_at rec s t ts e (Some called) is h all both =
+        then_stands (λ (r : Stream). StreamAt r × Spends budget (with_rest s ts) r) StreamAt (replaced budget called t.at (with_rest s ts)) _ (also StreamAt (Spends budget (with_rest s ts)) (replaced budget called t.at (with_rest s ts)) (replaced_at budget called t.at (with_rest s ts) both.0 (body_at t.kind called is) both.1) (replaced_spends budget called t.at (with_rest s ts))) (λ r k. h r (call_less budget s r t ts e k.1).less k.0)
 
-    list_at : (rec : Left → Answer Left) (units : ℕ) (ts : List Tok) → ((m : Left) → work budget macros m < (budget - units) + length ts → LeftAt m → Stands LeftAt (rec m)) → StandAt ts → Stands LeftAt (front_list budget macros rec units ts)
-    list_at rec units [] h all = tt
-    list_at rec units (t ∷ ts) h all = token_at rec units t ts (called_by macros t.kind) refl h all
+    list_at : (rec : Stream → Answer Stream) (s : Stream) (ts : List Tok) → s.list.rest ≡ ts → ((r : Stream) → work budget r < work budget s → StreamAt r → Stands StreamAt (rec r)) → StreamAt s → StandAt ts → Stands StreamAt (front_list budget macros rec s ts)
+    list_at rec s [] e h all same = all
+    list_at rec s (t ∷ ts) e h all same = token_at rec s t ts e (called_by macros t.kind) refl h all same
 
-    pub front_at : (l : Left) → LeftAt l → Stands LeftAt (front budget macros l)
-    front_at l = by_work (λ l. LeftAt l → Stands LeftAt (front budget macros l)) (λ l h all. subst (Stands LeftAt) (sym (front_is budget macros l)) (list_at (front budget macros) l.units l.rest h all)) (suc (work budget macros l)) l (omega arith)
+    pub front_at : (s : Stream) → StreamAt s → Stands StreamAt (front budget macros s)
+    front_at s = by_work (λ s. StreamAt s → Stands StreamAt (front budget macros s)) (λ s h all. subst (Stands StreamAt) (sym (front_is budget macros s)) (list_at (front budget macros) s s.list.rest refl h all all)) (suc (work budget s)) s (omega arith)
 
-    rest_at : (l : Left) (units : ℕ) (ts : List Tok) → (budget - units) + length ts ≤ work budget macros l → ((m : Left) → work budget macros m < work budget macros l → LeftAt m → Stands LeftAt (full budget macros m)) → StandAt ts → Stands LeftAt (full_list budget macros (full budget macros) units ts)
-    rest_at l units [] le h all = tt
-    rest_at l units (t ∷ ts) le h all =
-        then_stands LeftAt LeftAt (full budget macros (left units ts)) _ (h (left units ts) (omega arith) all.1) (λ more k. (all.0, k))
+    rest_at : (s m : Stream) → Falls budget s m → (ts : List Tok) → m.list.rest ≡ ts → ((r : Stream) → work budget r < work budget s → StreamAt r → Stands StreamAt (full budget macros r)) → StreamAt m → StandAt ts → Stands StreamAt (full_list budget macros (full budget macros) m ts)
+    rest_at s m fell [] e h all same = all
+    rest_at s m fell (t ∷ ts) e h all same =
+        then_stands StreamAt StreamAt (full budget macros (with_rest m ts)) _ (h (with_rest m ts) (let a = fell.work_falls in omega (arith, ap length e)) same.1) (λ more k. (same.0, k))
 
-    pub full_at : (l : Left) → LeftAt l → Stands LeftAt (full budget macros l)
-    full_at l = by_work (λ l. LeftAt l → Stands LeftAt (full budget macros l)) (λ l h all. subst (Stands LeftAt) (sym (full_is budget macros l)) (
-        then_stands (λ (m : Left). LeftAt m × Falls budget macros l m) LeftAt (front budget macros l) _ (also LeftAt (Falls budget macros l) (front budget macros l) (front_at l all) (front_falls budget macros l)) (λ m k.
-        rest_at l m.units m.rest k.1.work_falls h k.0))) (suc (work budget macros l)) l (omega arith)
+    pub full_at : (s : Stream) → StreamAt s → Stands StreamAt (full budget macros s)
+    full_at s = by_work (λ s. StreamAt s → Stands StreamAt (full budget macros s)) (λ s h all. subst (Stands StreamAt) (sym (full_is budget macros s)) (
+        then_stands (λ (m : Stream). StreamAt m × Falls budget s m) StreamAt (front budget macros s) _ (also StreamAt (Falls budget s) (front budget macros s) (front_at s all) (front_falls budget macros s)) (λ m k.
+        rest_at s m k.1 m.list.rest refl h k.0 k.0))) (suc (work budget s)) s (omega arith)

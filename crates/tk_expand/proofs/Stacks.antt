@@ -1,5 +1,5 @@
 -- Lists that lie on one another.
-use Rattle.std.proofs.Common.{◌≡◌, ℕ, zero, suc, List, [], ◌∷◌, ◌++◌, length, take, get_or, refl, sym, ap, ◌∙◌, append_assoc, arith, slice_set}
+use Rattle.std.proofs.Common.{◌≡◌, ℕ, zero, suc, List, [], ◌∷◌, ◌++◌, length, take, get_or, slice_get, Some, refl, sym, ap, ◌∙◌, append_assoc, arith, slice_set}
 use Rattle.std.proofs.lemmas.List.{append-nil}
 use Rattle.tk_token.specs.declared.Tok.{Tok}
 use Rattle.tk_expand.specs.Stack.{stacked}
@@ -57,3 +57,22 @@ none-left (l ∷ lists) is = absurd (omega (arith, is))
 pub first_list : (lists : List (List Tok)) (list : List Tok) → lists ≡ [] → list ++ stacked lists ≡ list
 unfolding stacked
 first_list lists list none = ap (λ (ls : List (List Tok)). list ++ stacked ls) none ∙ append-nil list
+
+-- ---- the last list
+
+-- the first token of all is that of the last list
+pub first_of_last : (lists : List (List Tok)) (i : ℕ) (last : List Tok) (d : List Tok) (t : Tok) → suc i ≡ length lists → last ≡ get_or lists i d → slice_get last 0 ≡ Some t → slice_get (stacked lists) 0 ≡ Some t
+first_of_last lists i last d t is there first =
+    ap (λ (ts : List Tok). slice_get ts 0) (stacked-last lists i d is ∙ ap (λ (ts : List Tok). ts ++ stacked (take i lists)) (sym there)) ∙ in_front last (stacked (take i lists)) first
+  where
+    in_front : (ts us : List Tok) → slice_get ts 0 ≡ Some t → slice_get (ts ++ us) 0 ≡ Some t
+    in_front [] us h = absurd cc
+    in_front (u ∷ ts) us h = h
+
+-- the last list is what is read first, before the others
+pub last_first : (lists : List (List Tok)) (i : ℕ) (last d : List Tok) → suc i ≡ length lists → last ≡ get_or lists i d → stacked lists ≡ last ++ stacked (take i lists)
+last_first lists i last d is there = stacked-last lists i d is ∙ ap (λ (ts : List Tok). ts ++ stacked (take i lists)) (sym there)
+
+-- an empty list in its place is left out
+pub last_left_out : (lists lists' : List (List Tok)) (i : ℕ) (new : List Tok) → suc i ≡ length lists → new ≡ [] → lists' ≡ take i (slice_set lists i new) → stacked lists' ≡ new ++ stacked (take i lists)
+last_left_out lists lists' i new is none rest = ap stacked (rest ∙ take-set lists i new) ∙ ap (λ (ts : List Tok). ts ++ stacked (take i lists)) (sym none)

@@ -1,22 +1,14 @@
 -- Arguments of macro calls (Knuth, TeX: The Program, sections 391 to 399, for parameters that nothing delimits).
-use Rattle.std.specs.Prelude.{ℕ, zero, suc, ◌-◌, Bool, true, false, List, [], ◌∷◌, drop, slice_get, unwrap_or, Option, Some, None, Ok}
-use Rattle.std.specs.List.{flat_map, prefix_len}
+use Rattle.std.specs.Prelude.{ℕ, zero, suc, ◌-◌, List, [], ◌∷◌, slice_get, unwrap_or, Option, Some, None, Ok}
+use Rattle.std.specs.List.{flat_map}
 use Rattle.tk_token.specs.declared.Kind.{Kind}
-use Rattle.tk_token.specs.declared.Kind.TheVariants.{Open, Close, Arg, Space}
+use Rattle.tk_token.specs.declared.Kind.TheVariants.{Open, Close, Arg}
 use Rattle.tk_token.specs.declared.Tok.{Tok}
 use Rattle.tk_token.specs.declared.Code.TheVariants.{MacroArg}
 use Rattle.tk_token.specs.Answers.{Answer, ◌>>=◌, or_fault}
 use Rattle.tk_token.specs.Groups.{Cut, cut, group_of}
+use Rattle.tk_token.specs.Spaces.{after_spaces}
 use Rattle.tk_store.specs.declared.Macro.{Macro}
-
--- a Space
-abbrev pub is_space : Kind → Bool
-is_space Space = true
-is_space _ = false
-
--- what stands behind the Spaces in front
-abbrev pub after_spaces : List Tok → List Tok
-after_spaces ts = drop (prefix_len (λ (t : Tok). is_space t.kind) ts) ts
 
 -- an argument that begins with a token of that kind: the contents of a group, or the token itself
 abbrev pub argument_from : Kind → Tok → List Tok → Option Cut
@@ -50,17 +42,17 @@ arguments_of at (suc n) ts = do
   more ← arguments_of at n first.rest
   Ok (given (first.front ∷ more.texts) more.rest)
 
--- what a token of a body stands for: the place of an argument for that argument, all else for itself
-abbrev pub meant_by : List (List Tok) → Kind → Tok → List Tok
-meant_by arguments (Arg n) t = unwrap_or (slice_get arguments (n - 1)) (t ∷ [])
-meant_by arguments _ t = t ∷ []
+-- what a call has for a token of the body: the argument whose place it is, and all else as it stands
+abbrev pub put_in : List (List Tok) → Kind → Tok → List Tok
+put_in arguments (Arg n) t = unwrap_or (slice_get arguments (n - 1)) (t ∷ [])
+put_in arguments _ t = t ∷ []
 
 -- the body with its arguments put in
 abbrev pub with_arguments : List (List Tok) → List Tok → List Tok
-with_arguments arguments body = flat_map (λ (t : Tok). meant_by arguments t.kind t) body
+with_arguments arguments body = flat_map (λ (t : Tok). put_in arguments t.kind t) body
 
--- what a call stands for, whose word was read, and what stands behind it
-unfoldable pub text_of : Macro → ℕ → List Tok → Answer Cut
-text_of called at ts = do
+-- the text of a call whose word was read, and what stands behind the call
+unfoldable pub call_text : Macro → ℕ → List Tok → Answer Cut
+call_text called at ts = do
   arguments ← arguments_of at called.args ts
   Ok (cut (with_arguments arguments.texts called.body) arguments.rest)

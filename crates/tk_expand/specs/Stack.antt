@@ -1,4 +1,4 @@
--- Lists that lie on one another.
+-- Private: only private contracts use this. Lists that lie on one another.
 use Rattle.std.specs.Prelude.{List, [], ◌∷◌, ◌++◌}
 use Rattle.tk_token.specs.declared.Tok.{Tok}
 

@@ -1,4 +1,4 @@
--- Texts of the code.
+-- Private: only private contracts use this. Texts of the code.
 use Rattle.std.specs.Prelude.{List, map, Vec}
 use Rattle.std.specs.declared.alloc.Global.{Global}
 use Rattle.tk_token.specs.declared.Tok.{Tok}

@@ -1,12 +1,13 @@
 //! Macro calls: their arguments, their texts, and what they cost.
 
-ghost use Rattle.std.specs.Prelude.{◌≡◌, ◌+◌, ◌-◌, ◌≤◌, ◌^◌, [], ◌++◌, length, Ok, Err, MatchOption, MatchResult, IfOk, IfNone, OnOk};
+ghost use Rattle.std.specs.Prelude.{◌≡◌, ◌+◌, ◌-◌, ◌≤◌, ◌^◌, ℕ, [], ◌++◌, length, true, Ok, Err, MatchOption, MatchResult, IfOk, IfNone, OnOk};
 ghost use Rattle.std.specs.Option.{option_to_list};
-ghost use Rattle.tk_token.specs.Groups.{cut};
 ghost use Rattle.tk_token.specs.Refusals.{Gives};
-ghost use Rattle.tk_expand.specs.Arguments.{arguments_of, given, with_arguments, meant_by};
+ghost use Rattle.tk_expand.specs.Arguments.{arguments_of, given, with_arguments, put_in};
 ghost use Rattle.tk_expand.specs.Texts.{texts_of};
-ghost use Rattle.tk_expand.specs.Expand.{cost_of, pay, left, replaced, front, full};
+ghost use Rattle.tk_expand.specs.Unread.{unread};
+ghost use Rattle.tk_expand.specs.Expand.{cost_of, pay, stream, replaced, full, is_expanded};
+ghost use Rattle.tk_expand.specs.Reading.{taken, next};
 
 use crate::{Input, Units};
 use std::alloc::{AllocError, Global};
@@ -18,15 +19,16 @@ impl Input {
     /// Takes the token in front once no macro call is in front; there is none exactly at the end. Each call in front is
     /// paid for, and its text takes its place. The faults are `MacroArg` and `Budget` at the word of a call.
     pub fn next(&mut self, store: &Store, units: &mut Units) -> Result<Option<Tok>, Refusal>
-        ensures gives { Gives (λ tok. left units.new.used (option_to_list tok ++ self.new.rest)) result
-            (front units.old.budget store.now.top.macros (left units.old.used self.old.rest)) }
-        ensures none { IfOk result (λ tok. IfNone tok (self.new.rest ≡ [])) }
+        ensures gives { Gives (λ token. taken token (stream units.new.used self.new)) result
+            (next units.old.budget store.now.top.macros (stream units.old.used self.old)) }
+        ensures none { IfOk result (λ token. IfNone token (self.new.rest ≡ [])) }
         ensures end { OnOk result (self.new.end ≡ self.old.end) }
         ensures budget { units.new.budget ≡ units.old.budget }
 
         // A turn spends units or takes a token, so that it never has more work left than before.
         ensures used { OnOk result (units.old.used ≤ units.new.used) }
-        ensures work { IfOk result (λ tok. (units.new.budget - units.new.used) + length (option_to_list tok ++ self.new.rest)
+        ensures work { IfOk result (λ token.
+            (units.new.budget - units.new.used) + length (option_to_list token ++ self.new.rest)
             ≤ (units.old.budget - units.old.used) + length self.old.rest) }
     {
         while let Some(tok) = self.raw() {
@@ -42,9 +44,10 @@ impl Input {
     }
 
     /// Pays for a call whose word was taken, and puts its text in its place.
-    #[tactic(auto, unfolding(crate::specs::Arguments::text_of, crate::specs::Expand::replaced))]
+    #[tactic(auto, unfolding(crate::specs::Arguments::call_text, crate::specs::Expand::replaced))]
     fn replace(&mut self, called: &Macro, at: u32, units: &mut Units) -> Result<(), Refusal>
-        ensures gives { Gives (λ _. left units.new.used self.new.rest) result (replaced units.old.budget units.old.used called.now at self.old.rest) }
+        ensures gives { Gives (λ _. stream units.new.used self.new) result
+            (replaced units.old.budget called.now at (stream units.old.used self.old)) }
         ensures end { OnOk result (self.new.end ≡ self.old.end) }
         ensures budget { units.new.budget ≡ units.old.budget }
     {
@@ -57,7 +60,8 @@ impl Input {
 
     /// Takes so many arguments.
     fn arguments(&mut self, count: u8, at: u32) -> Result<Vec<Vec<Tok>>, Refusal>
-        ensures gives { Gives (λ texts. given (texts_of texts.items) self.new.rest) result (arguments_of at count self.old.rest) }
+        ensures gives { Gives (λ texts. given (texts_of texts.items) self.new.rest) result
+            (arguments_of at count self.old.rest) }
         ensures end { OnOk result (self.new.end ≡ self.old.end) }
     {
         let mut arguments = Vec::new(self.allocator());
@@ -94,7 +98,7 @@ fn cost_of(arguments: &[Vec<Tok>], body: &[Tok]) -> Option<u64>
 {
     let mut cost: u64 = 1;
     for tok in body {
-        cost = cost.checked_add(meant_by(arguments, tok).len() as u64)?;
+        cost = cost.checked_add(put_in(arguments, tok).len() as u64)?;
     }
     Some(cost)
 }
@@ -108,14 +112,14 @@ fn with_arguments(alloc: Global, arguments: &[Vec<Tok>], body: &Body) -> Result<
     }
     let mut text = Vec::new(alloc);
     for tok in body.as_slice() {
-        text.extend_from_slice(meant_by(arguments, tok))?;
+        text.extend_from_slice(put_in(arguments, tok))?;
     }
     Body::from_vec(text)
 }
 
-/// What a token of a body stands for.
-fn meant_by<'a>(arguments: &'a [Vec<Tok>], tok: &'a Tok) -> &'a [Tok]
-    ensures { result.now ≡ meant_by (texts_of arguments.now) tok.now.kind tok.now }
+/// What a call has for a token of the body.
+fn put_in<'a>(arguments: &'a [Vec<Tok>], tok: &'a Tok) -> &'a [Tok]
+    ensures { result.now ≡ put_in (texts_of arguments.now) tok.now.kind tok.now }
 {
     let itself = slice::from_ref(tok);
     let Kind::Arg(n) = tok.kind else {
@@ -127,19 +131,55 @@ fn meant_by<'a>(arguments: &'a [Vec<Tok>], tok: &'a Tok) -> &'a [Tok]
     }
 }
 
-/// The list with no macro call left.
+/// Whether nothing in the list calls; then the list is its own expansion, and costs nothing. This takes no memory.
+pub fn is_expanded(list: &[Tok], store: &Store) -> bool
+    ensures { result ≡ is_expanded store.now.top.macros list.now }
+{
+    list.iter().all(|tok| !calls(tok.kind, store))
+}
+
+/// Whether a token calls a macro.
+fn calls(kind: Kind, store: &Store) -> bool
+    ensures { result ≡ is_some (called_by store.now.top.macros kind) }
+{
+    match kind {
+        Kind::Word(name) => store.get_macro(name).is_some(),
+        _ => false,
+    }
+}
+
+/// The list with no macro call left: the list itself where nothing in it calls. No fault stands at its end, so that it may
+/// run out anywhere.
 pub fn expand_all(
     alloc: Global,
-    list: &[Tok],
+    list: Vec<Tok>,
     store: &Store,
     units: &mut Units,
 ) -> Result<Vec<Tok>, Refusal>
-    ensures gives { Gives (λ text. left units.new.used text.items) result
-        (full units.old.budget store.now.top.macros (left units.old.used list.now)) }
+    ensures gives { (end : ℕ) → Gives (λ text. stream units.new.used (unread text.items end)) result
+        (full units.old.budget store.now.top.macros (stream units.old.used (unread list.items end))) }
     ensures budget { units.new.budget ≡ units.old.budget }
     ensures used { OnOk result (units.old.used ≤ units.new.used) }
 {
-    let mut input = Input::new(alloc, Body::new(alloc, list)?, 0)?;
+    if is_expanded(&list, store) {
+        return Ok(list);
+    }
+    expand_by_one(alloc, Body::from_vec(list)?, store, units)
+}
+
+/// The same, one token after the other.
+fn expand_by_one(
+    alloc: Global,
+    list: Body,
+    store: &Store,
+    units: &mut Units,
+) -> Result<Vec<Tok>, Refusal>
+    ensures gives { Gives (λ text. stream units.new.used (unread text.items 0)) result
+        (full units.old.budget store.now.top.macros (stream units.old.used (unread list 0))) }
+    ensures budget { units.new.budget ≡ units.old.budget }
+    ensures used { OnOk result (units.old.used ≤ units.new.used) }
+{
+    let mut input = Input::new(alloc, list, 0)?;
     let mut text = Vec::new(alloc);
     while let Some(tok) = input.next(store, units)? {
         text.push(tok)?;

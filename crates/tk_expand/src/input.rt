@@ -1,41 +1,22 @@
 //! Token lists that are being read, from the front on.
 
-ghost use Rattle.std.specs.Prelude.{◌≡◌, ◌+◌, ◌^◌, ◌<◌, ◌≤◌, ◌==◌, ◌&&◌, if◌then◌else◌, [], ◌++◌, length, Some, None, IfOk, IfNone, OnOk};
+ghost use Rattle.std.specs.Prelude.{◌≡◌, ◌+◌, ◌<◌, ◌≤◌, ◌^◌, ◌==◌, ◌&&◌, if◌then◌else◌, [], ◌++◌, length, slice_get, Some, None, IfOk, IfNone, IfSome, OnOk};
 ghost use Rattle.std.specs.Bool.{OnFalse, OnTrue};
 ghost use Rattle.std.specs.Option.{option_to_list, option_map};
 ghost use Rattle.tk_token.specs.declared.Code.TheVariants.{MacroArg};
 ghost use Rattle.tk_token.specs.Answers.{or_fault};
-ghost use Rattle.tk_token.specs.Groups.{cut, depth_after, is_close, before_in, before_sign};
+ghost use Rattle.tk_token.specs.Groups.{cut, before_char, group_of};
+ghost use Rattle.tk_token.specs.Kinds.{is_close};
 ghost use Rattle.tk_token.specs.Refusals.{Gives};
-ghost use Rattle.tk_expand.specs.Arguments.{argument_of, after_spaces};
-ghost use Rattle.tk_expand.specs.Stops.{wanted_by};
+ghost use Rattle.tk_expand.specs.Arguments.{argument_of};
+ghost use Rattle.tk_expand.specs.Stops.{before_stop};
+ghost use Rattle.tk_expand.specs.Unread.{unread, past_spaces};
 
-use crate::rest::Rest;
+use crate::rest::{Rest, Stop};
 use std::alloc::{AllocError, Global};
 use std::marker::Model;
 use tk_store::Body;
-use tk_token::{Code, Fault, Kind, Refusal, Tok};
-
-/// What ends a search outside braces.
-#[derive(Clone, Copy)]
-enum Stop {
-    Char(char),
-    Close,
-}
-
-impl Stop {
-    /// Whether it is that token, where so many braces are open.
-    fn is(self, depth: usize, kind: Kind) -> bool
-        ensures { result ≡ (depth == 0 && wanted_by self kind) }
-    {
-        let wanted = match (self, kind) {
-            (Stop::Char(stop), Kind::Char(character)) => character == stop,
-            (Stop::Close, Kind::Close) => true,
-            _ => false,
-        };
-        depth == 0 && wanted
-    }
-}
+use tk_token::{Code, Fault, Kind, Refusal, Tok, depth_after};
 
 /// What is left of a token list, and the place at which it runs out. The list is a stack of lists that share their tokens
 /// with the bodies that they come from; the last one is read first, and none of them is empty.
@@ -63,7 +44,7 @@ impl Input {
     /// The whole list, with the place at which it runs out.
     #[tactic(auto, using(crate::proofs::Stacks::first_list))]
     pub fn new(alloc: Global, list: Body, end: u32) -> Result<Input, AllocError>
-        ensures { IfOk result (λ input. input ≡ record { rest = list; end = end }) }
+        ensures { IfOk result (λ input. input ≡ unread list end) }
     {
         let mut input = Input {
             alloc,
@@ -86,6 +67,17 @@ impl Input {
         self.end
     }
 
+    /// The token in front, which stays. This takes no memory.
+    pub fn first(&self) -> Option<Tok>
+        ensures { result ≡ slice_get self.now.rest 0 }
+    {
+        if self.stack.is_empty() {
+            return None;
+        }
+        let last = self.stack.len() - 1;
+        Some(self.stack[last].first())
+    }
+
     /// Takes the token in front as it stands; there is none exactly at the end. This takes no memory.
     pub fn raw(&mut self) -> Option<Tok>
         ensures rest { self.old.rest ≡ option_to_list result ++ self.new.rest }
@@ -104,6 +96,18 @@ impl Input {
         Some(tok)
     }
 
+    /// Takes the Spaces in front. This takes no memory.
+    pub fn skip_spaces(&mut self)
+        ensures { self.new ≡ past_spaces self.old }
+    {
+        while let Some(tok) = self.first() {
+            if !tok.kind.is_space() {
+                return;
+            }
+            self.raw();
+        }
+    }
+
     /// Puts a list in front.
     #[tactic(auto, using(crate::proofs::Stacks::stacked_push))]
     pub fn push(&mut self, list: Body) -> Result<(), AllocError>
@@ -119,22 +123,34 @@ impl Input {
     /// Takes the tokens before the first `stop` outside braces, and that `stop`. There are none exactly where the list
     /// ends before it, or a `}` comes before it that closes none of these tokens; then nothing is taken.
     pub fn until(&mut self, stop: char) -> Result<Option<Vec<Tok>>, AllocError>
-        ensures gives { IfOk result (λ found. option_map (λ front. cut front.items self.new.rest) found ≡ before_sign stop self.old.rest) }
+        ensures gives { IfOk result
+            (λ found. option_map (λ front. cut front.items self.new.rest) found ≡ before_char stop self.old.rest) }
         ensures none { IfOk result (λ found. IfNone found (self.new ≡ self.old)) }
         ensures end { OnOk result (self.new.end ≡ self.old.end) }
+        ensures shorter { IfOk result
+            (λ found. IfSome found (λ front. length front.items + length self.new.rest < length self.old.rest)) }
     {
-        let (front, found) = self.before(Stop::Char(stop))?;
-        if found {
-            return Ok(Some(front));
-        }
-        self.push(Body::from_vec(front)?)?;
-        Ok(None)
+        self.before(Stop::Char(stop))
+    }
+
+    /// Takes the contents of a group whose `{` was taken, and its `}`. There are none exactly where the list ends before
+    /// that `}`; then nothing is taken.
+    pub fn group(&mut self) -> Result<Option<Vec<Tok>>, AllocError>
+        ensures gives { IfOk result
+            (λ found. option_map (λ front. cut front.items self.new.rest) found ≡ group_of self.old.rest) }
+        ensures none { IfOk result (λ found. IfNone found (self.new ≡ self.old)) }
+        ensures end { OnOk result (self.new.end ≡ self.old.end) }
+        ensures shorter { IfOk result
+            (λ found. IfSome found (λ front. length front.items + length self.new.rest < length self.old.rest)) }
+    {
+        self.before(Stop::Close)
     }
 
     /// Takes an argument that nothing delimits: the next token that isn't a Space, or the contents of the next group. The
     /// fault is `MacroArg` at the place, exactly where the list ends or a `}` stands there.
     pub fn argument(&mut self, at: u32) -> Result<Vec<Tok>, Refusal>
-        ensures gives { Gives (λ text. cut text.items self.new.rest) result (or_fault (argument_of self.old.rest) MacroArg at) }
+        ensures gives { Gives (λ text. cut text.items self.new.rest) result
+            (or_fault (argument_of self.old.rest) MacroArg at) }
         ensures end { OnOk result (self.new.end ≡ self.old.end) }
         ensures shorter { IfOk result (λ text. length text.items + length self.new.rest ≤ length self.old.rest) }
     {
@@ -142,81 +158,78 @@ impl Input {
             code: Code::MacroArg,
             at,
         };
-        let Some(first) = self.after_spaces() else {
+        self.skip_spaces();
+        let Some(first) = self.raw() else {
             return Err(missing.into());
         };
         match first.kind {
-            Kind::Open => {
-                let (contents, closed) = self.before(Stop::Close)?;
-                if closed {
-                    Ok(contents)
-                } else {
-                    Err(missing.into())
-                }
-            }
+            Kind::Open => match self.group()? {
+                Some(contents) => Ok(contents),
+                None => Err(missing.into()),
+            },
             Kind::Close => Err(missing.into()),
             _ => Ok(vec![in self.alloc; first]?),
         }
     }
 
-    /// Takes the first token that isn't a Space, with the Spaces before it.
-    fn after_spaces(&mut self) -> Option<Tok>
-        ensures rest { after_spaces self.old.rest ≡ option_to_list result ++ self.new.rest }
-        ensures none { IfNone result (self.new.rest ≡ []) }
-        ensures end { self.new.end ≡ self.old.end }
-        ensures shorter { length (option_to_list result ++ self.new.rest) ≤ length self.old.rest }
+    /// Takes the tokens before the first stop outside braces, and the stop; where there is none, nothing is taken. A stop
+    /// in the list that is read first is found without a walk through the stack.
+    fn before(&mut self, stop: Stop) -> Result<Option<Vec<Tok>>, AllocError>
+        ensures gives { IfOk result
+            (λ found. option_map (λ front. cut front.items self.new.rest) found ≡ before_stop stop self.old.rest) }
+        ensures none { IfOk result (λ found. IfNone found (self.new ≡ self.old)) }
+        ensures end { OnOk result (self.new.end ≡ self.old.end) }
     {
-        while let Some(tok) = self.raw() {
-            let Kind::Space = tok.kind else {
-                return Some(tok);
-            };
+        if let Some(front) = self.before_in_first(stop)? {
+            return Ok(Some(front));
         }
-        None
+        let (front, found) = self.before_by_one(stop)?;
+        if found {
+            return Ok(Some(front));
+        }
+        self.push(Body::from_vec(front)?)?;
+        Ok(None)
     }
 
-    /// Takes the tokens before the first such stop outside braces, and the stop, and tells whether it was found. Where it
-    /// was not, all tokens that were taken are given.
-    fn before(&mut self, stop: Stop) -> Result<(Vec<Tok>, bool), AllocError>
-        ensures gives { IfOk result (λ taken. before_in (wanted_by stop) 0 self.old.rest ≡ (if taken.1 then Some (cut taken.0.items self.new.rest) else None)) }
+    /// The same, where the stop is in the list that is read first; else nothing is taken.
+    fn before_in_first(&mut self, stop: Stop) -> Result<Option<Vec<Tok>>, AllocError>
+        ensures gives { IfOk result
+            (λ found. IfSome found (λ front. before_stop stop self.old.rest ≡ Some (cut front.items self.new.rest))) }
+        ensures none { IfOk result (λ found. IfNone found (self.new ≡ self.old)) }
+        ensures end { OnOk result (self.new.end ≡ self.old.end) }
+    {
+        if self.stack.is_empty() {
+            return Ok(None);
+        }
+        let last = self.stack.len() - 1;
+        let list = &mut self.stack[last];
+        let found = list.take_before(self.alloc, stop)?;
+        if list.is_empty() {
+            self.stack.truncate(last);
+        }
+        Ok(found)
+    }
+
+    /// Takes the tokens before the first stop outside braces, and the stop, one by one, and tells whether it was found.
+    /// Where it was not, all tokens that were taken are given.
+    fn before_by_one(&mut self, stop: Stop) -> Result<(Vec<Tok>, bool), AllocError>
+        ensures gives { IfOk result (λ taken. before_stop stop self.old.rest
+            ≡ (if taken.1 then Some (cut taken.0.items self.new.rest) else None)) }
         ensures kept { IfOk result (λ taken. OnFalse taken.1 (taken.0.items ++ self.new.rest ≡ self.old.rest)) }
         ensures end { OnOk result (self.new.end ≡ self.old.end) }
-        ensures shorter { IfOk result (λ taken. OnTrue taken.1 (length taken.0.items + length self.new.rest < length self.old.rest)) }
     {
         let mut front = Vec::new(self.alloc);
         let mut depth: usize = 0;
         while let Some(tok) = self.raw() {
-            if stop.is(depth, tok.kind) {
+            if depth == 0 && stop.is(tok.kind) {
                 return Ok((front, true));
             }
             front.push(tok)?;
-            if closes_nothing(depth, tok.kind) {
+            if depth == 0 && tok.kind.is_close() {
                 return Ok((front, false));
             }
             depth = depth_after(depth, tok.kind);
         }
         Ok((front, false))
-    }
-}
-
-/// Whether a token is a `}` too many, where so many braces are open.
-fn closes_nothing(depth: usize, kind: Kind) -> bool
-    ensures { result ≡ (depth == 0 && is_close kind) }
-{
-    match kind {
-        Kind::Close => depth == 0,
-        _ => false,
-    }
-}
-
-/// How many braces are open after a token.
-fn depth_after(depth: usize, kind: Kind) -> usize
-    requires { depth + 1 < 2 ^ 64 }
-    ensures depth { result ≡ depth_after depth kind }
-    ensures within { result ≤ depth + 1 }
-{
-    match kind {
-        Kind::Open => depth + 1,
-        Kind::Close => depth.saturating_sub(1),
-        _ => depth,
     }
 }

@@ -1,10 +1,42 @@
 //! Lists of which the first tokens were read.
 
-ghost use Rattle.std.specs.Prelude.{◌≡◌, ◌<◌, ◌==◌, ◌∷◌, length};
+ghost use Rattle.std.specs.Prelude.{◌≡◌, ◌<◌, ◌==◌, ◌∷◌, length, slice_get, Some, IfOk, IfNone};
+ghost use Rattle.std.specs.Option.{option_map};
+ghost use Rattle.tk_token.specs.Groups.{cut};
+ghost use Rattle.tk_expand.specs.Stops.{is_stop, sought_of, before_stop};
 
+use std::alloc::{AllocError, Global};
 use std::marker::Model;
 use tk_store::Body;
-use tk_token::Tok;
+use tk_token::{Kind, Sought, Tok, first_outside};
+
+/// What ends a search outside braces: one token.
+#[derive(Clone, Copy)]
+pub(crate) enum Stop {
+    Char(char),
+    Close,
+}
+
+impl Stop {
+    /// Whether it is that token.
+    pub(crate) fn is(self, kind: Kind) -> bool
+        ensures { result ≡ is_stop self kind }
+    {
+        match self {
+            Stop::Char(wanted) => kind.is_char(wanted),
+            Stop::Close => kind.is_close(),
+        }
+    }
+
+    fn sought(self) -> Sought
+        ensures { result ≡ sought_of self }
+    {
+        match self {
+            Stop::Char(wanted) => Sought::Char(wanted),
+            Stop::Close => Sought::Close,
+        }
+    }
+}
 
 /// A list of which the first tokens were read.
 #[derive(Drop)]
@@ -37,6 +69,21 @@ impl Rest {
         self.from == self.list.as_slice().len()
     }
 
+    /// The tokens that are left.
+    pub(crate) fn as_slice(&self) -> &[Tok]
+        ensures { result.now ≡ self.now }
+    {
+        &self.list.as_slice()[self.from..]
+    }
+
+    /// The first token, which stays.
+    pub(crate) fn first(&self) -> Tok
+        requires { 0 < length self.now }
+        ensures { slice_get self.now 0 ≡ Some result }
+    {
+        self.list.as_slice()[self.from]
+    }
+
     /// Takes the first token.
     pub(crate) fn take(&mut self) -> Tok
         requires { 0 < length self.old }
@@ -45,5 +92,22 @@ impl Rest {
         let tok = self.list.as_slice()[self.from];
         self.from += 1;
         tok
+    }
+
+    /// Takes the tokens before the first stop outside braces, and the stop; where there is none, nothing is taken.
+    pub(crate) fn take_before(
+        &mut self,
+        alloc: Global,
+        stop: Stop,
+    ) -> Result<Option<Vec<Tok>>, AllocError>
+        ensures gives { IfOk result (λ found. option_map (λ front. cut front.items self.new) found ≡ before_stop stop self.old) }
+        ensures none { IfOk result (λ found. IfNone found (self.new ≡ self.old)) }
+    {
+        let Some((front, _)) = first_outside(self.as_slice(), stop.sought()) else {
+            return Ok(None);
+        };
+        let front = Vec::from_slice(alloc, front)?;
+        self.from += front.len() + 1;
+        Ok(Some(front))
     }
 }

@@ -1,3 +1,4 @@
 pub mod Levels
 pub mod Bodies
+pub mod Fronts
 pub mod Undo

@@ -6,7 +6,7 @@ mod steps;
 mod store;
 mod tables;
 
-pub use body::Body;
+pub use body::{Body, digit_of};
 use std::alloc::AllocError;
 pub use steps::Steps;
 pub use store::Store;

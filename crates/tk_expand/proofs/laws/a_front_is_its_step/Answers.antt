@@ -1,4 +1,4 @@
-use Rattle.tk_expand.proofs.Expanded.{front_is}
+use Rattle.tk_expand.proofs.Falling.{front_is}
 use Rattle.tk_expand.proofs.laws.a_front_is_its_step.Goals as goal
 
 pub returns : goal.returns

@@ -1,4 +1,4 @@
-use Rattle.tk_expand.proofs.Expanded.{full_is}
+use Rattle.tk_expand.proofs.Falling.{full_is}
 use Rattle.tk_expand.proofs.laws.a_full_expansion_is_its_step.Goals as goal
 
 pub returns : goal.returns

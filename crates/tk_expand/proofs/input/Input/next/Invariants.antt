@@ -1,10 +1,11 @@
 use Rattle.std.proofs.Common.{◌≡◌, ◌≤◌, ◌+◌, ◌-◌, length}
-use Rattle.tk_expand.specs.Expand.{left, front}
+use Rattle.tk_expand.specs.Expand.{stream}
+use Rattle.tk_expand.specs.Reading.{next}
 use Rattle.tk_expand.proofs.input.Input.next.Given as goal
 
 abbrev pub invariant-loop-tok : goal.invariant-loop-tok
 invariant-loop-tok l = record {
-  told : front l.fn.units.budget l.store.top.macros (left l.fn.units.used l.fn.self.rest) ≡ front l.fn.units.budget l.store.top.macros (left l.units.used l.self.rest);
+  told : next l.fn.units.budget l.store.top.macros (stream l.fn.units.used l.fn.self) ≡ next l.units.budget l.store.top.macros (stream l.units.used l.self);
   end : l.self.end ≡ l.fn.self.end;
   budget : l.units.budget ≡ l.fn.units.budget;
   used : l.fn.units.used ≤ l.units.used;

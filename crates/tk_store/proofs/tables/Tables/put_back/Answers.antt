@@ -1,4 +1,4 @@
-use Rattle.std.proofs.Common.{◌≡◌, ℕ, ap, sym, subst, ◌∙◌}
+use Rattle.std.proofs.Common.{◌≡◌, ℕ, ap, sym, subst, ◌∙◌, rules}
 use Rattle.std.specs.List.{AllByRecursion}
 use Rattle.tk_store.specs.declared.Macro.{Macro}
 use Rattle.tk_store.specs.declared.tables.Saved.{Saved}
@@ -8,7 +8,6 @@ use Rattle.tk_store.specs.Undo.{before, IsProperSaved}
 use Rattle.tk_store.proofs.Places.{each_replaced, each_in_front, past_end}
 use Rattle.tk_store.proofs.Undoing.{last_taken}
 use Rattle.tk_store.proofs.tables.Tables.put_back.Goals as goal
-use Rattle.tk_store.proofs.tables.Tables.put_back.Goals.{in-Some-1, in-None-1}
 use Rattle.tk_store.specs.contracts.tables.Tables.{the_view}
 
 pub invariant_of-self : goal.invariant_of-self
@@ -29,4 +28,4 @@ returns-in-NoMacro c =
     let taken : the_view (record { macros = c.pop.new.self }) ≡ before c.args.saved c.args.self.now =
     (λ i. record { macros = last_taken c.self.inside.macros.entries c.pop.new.self.entries c.pop.result c.pop.ensures.entries c.pop.ensures.found.1 i })
     ∙ ap (before NoMacro) c.self.view_is ∙ ap (λ (s : Saved). before s c.args.self.now) (sym c.in-NoMacro.is) in
-    elim c.match-pop.branch [ in-Some-1 w ↦ w.self-is ∙ taken | in-None-1 w ↦ w.self-is ∙ taken ]
+    search rules

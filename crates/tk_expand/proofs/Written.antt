@@ -1,0 +1,54 @@
+-- Tokens as they are written, as the code takes them.
+use Rattle.std.proofs.Common.{◌≡◌, ℕ, ◌+◌, ◌<◌, ◌≤◌, Bool, true, false, cond, List, [], ◌∷◌, length, get_or, drop, Option, Some, None, Ok, Err, refl, ap, sym, ◌∙◌, add-one, drop-cons}
+use Rattle.std.specs.Prelude.{if◌then◌else◌, slice_get}
+use Rattle.std.proofs.lemmas.List.{drop_all}
+use Rattle.tk_token.specs.declared.Code.{Code}
+use Rattle.tk_token.specs.declared.Fault.{Fault}
+use Rattle.tk_token.specs.declared.Tok.{Tok}
+use Rattle.tk_token.specs.Answers.{Answer, ◌>>=◌}
+use Rattle.tk_token.specs.Kinds.{is_char, is_space}
+use Rattle.tk_token.specs.Spaces.{after_spaces}
+use Rattle.tk_token.proofs.Answering.{then_is}
+use Rattle.tk_token.proofs.Spaces.{space_passed, no_space_passed}
+use Rattle.tk_expand.specs.Unread.{Unread}
+use Rattle.tk_expand.specs.Reading.{after_token, after_text}
+
+-- ---- Spaces in front
+
+-- a Space is passed over
+pub passed_over : (rest : List Tok) (t : Tok) (ts : List Tok) → rest ≡ t ∷ ts → is_space t.kind ≡ true → after_spaces rest ≡ after_spaces ts
+passed_over rest t ts e h = ap after_spaces e ∙ space_passed t ts h
+
+-- another token in front stays there
+pub stays : (rest : List Tok) (t : Tok) → slice_get rest 0 ≡ Some t → is_space t.kind ≡ false → after_spaces rest ≡ rest
+stays [] t first h = absurd cc
+stays (u ∷ ts) t first h = no_space_passed u ts (ap (λ (v : Tok). is_space v.kind) (let e : u ≡ t = cc in e) ∙ h)
+
+-- and so do no tokens
+pub none_stays : (rest : List Tok) → slice_get rest 0 ≡ None → after_spaces rest ≡ rest
+none_stays [] first = refl
+none_stays (u ∷ ts) first = absurd cc
+
+-- the token in front is the one that is taken
+pub same_first : (rest : List Tok) (t u : Tok) (ts : List Tok) → slice_get rest 0 ≡ Some t → rest ≡ u ∷ ts → u ≡ t
+same_first rest t u ts first e = let h : slice_get (u ∷ ts) 0 ≡ Some t = ap (λ (us : List Tok). slice_get us 0) (sym e) ∙ first in cc
+
+-- ---- texts
+
+then_fault : {A B : Type 0} (answer : Answer A) (f : A → Answer B) (e : Fault) → answer ≡ Err e → (answer >>= f) ≡ Err e
+then_fault answer f e h = ap (λ (x : Answer _). x >>= f) h
+
+module _ (code : Code) (text : List ℕ) (i : ℕ) (list : Unread) where
+  next_char : i < length text → after_text code (drop i text) list ≡ (after_token code (is_char (get_or text i 0)) list >>= after_text code (drop (i + 1) text))
+  unfolding after_text
+  next_char h = rw (add-one, drop-cons text i 0 h) refl
+
+  pub char_met : (more : Unread) → i < length text → after_token code (is_char (get_or text i 0)) list ≡ Ok more → after_text code (drop i text) list ≡ after_text code (drop (i + 1) text) more
+  char_met more h e = next_char h ∙ then_is (after_token code (is_char (get_or text i 0)) list) (after_text code (drop (i + 1) text)) more e
+
+  pub char_missed : (e : Fault) → i < length text → after_token code (is_char (get_or text i 0)) list ≡ Err e → after_text code (drop i text) list ≡ Err e
+  char_missed e h is = next_char h ∙ then_fault (after_token code (is_char (get_or text i 0)) list) (after_text code (drop (i + 1) text)) e is
+
+  pub text_met : length text ≤ i → after_text code (drop i text) list ≡ Ok list
+  unfolding after_text
+  text_met h = rw (drop_all i text h) refl

@@ -1,0 +1,108 @@
+//! What stands next once no macro call is in front.
+
+ghost use Rattle.std.specs.Prelude.{◌≡◌, ◌+◌, ◌-◌, ◌<◌, ◌≤◌, [], ◌++◌, length, true, false, IfOk, IfErr, IfNone, OnOk, OnErr};
+ghost use Rattle.std.specs.Option.{option_to_list};
+ghost use Rattle.tk_token.specs.Kinds.{is_char};
+ghost use Rattle.tk_token.specs.Refusals.{Gives};
+ghost use Rattle.tk_expand.specs.Expand.{stream};
+ghost use Rattle.tk_expand.specs.Reading.{taken, is_there, place_of, next_solid, after_next, after_letters};
+
+use crate::reading::require;
+use crate::{Input, Units};
+use tk_store::Store;
+use tk_token::{Code, Fault, Refusal, Tok};
+
+impl Input {
+    /// Takes the next token that is no Space, with the Spaces before it, as `next` takes each.
+    pub fn next_solid(&mut self, store: &Store, units: &mut Units) -> Result<Option<Tok>, Refusal>
+        ensures gives { Gives (λ token. taken token (stream units.new.used self.new)) result
+            (next_solid units.old.budget store.now.top.macros (stream units.old.used self.old)) }
+        ensures none { IfOk result (λ token. IfNone token (self.new.rest ≡ [])) }
+        ensures end { OnOk result (self.new.end ≡ self.old.end) }
+        ensures budget { units.new.budget ≡ units.old.budget }
+        ensures used { OnOk result (units.old.used ≤ units.new.used) }
+        ensures work { IfOk result (λ token.
+            (units.new.budget - units.new.used) + length (option_to_list token ++ self.new.rest)
+            ≤ (units.old.budget - units.old.used) + length self.old.rest) }
+    {
+        while let Some(tok) = self.next(store, units)? {
+            if !tok.kind.is_space() {
+                return Ok(Some(tok));
+            }
+        }
+        Ok(None)
+    }
+
+    /// Takes the next token, which has to be that character. The fault stands at another token, or where the list runs out.
+    #[tactic(auto, unfolding(crate::specs::Reading::expect, crate::specs::Reading::after_next))]
+    pub fn expect_next(
+        &mut self,
+        code: Code,
+        wanted: char,
+        store: &Store,
+        units: &mut Units,
+    ) -> Result<(), Refusal>
+        ensures gives { Gives (λ _. stream units.new.used self.new) result
+            (after_next units.old.budget store.now.top.macros code (is_char wanted) (stream units.old.used self.old)) }
+        ensures end { OnOk result (self.new.end ≡ self.old.end) }
+        ensures budget { units.new.budget ≡ units.old.budget }
+        ensures used { OnOk result (units.old.used ≤ units.new.used) }
+        ensures work { OnOk result ((units.new.budget - units.new.used) + length self.new.rest
+            < (units.old.budget - units.old.used) + length self.old.rest) }
+    {
+        let token = self.next(store, units)?;
+        Ok(self.expect(code, token, wanted)?)
+    }
+
+    /// Takes the characters of a text, with nothing between them.
+    pub fn expect_letters(
+        &mut self,
+        code: Code,
+        text: &[u8],
+        store: &Store,
+        units: &mut Units,
+    ) -> Result<(), Refusal>
+        ensures gives { Gives (λ _. stream units.new.used self.new) result
+            (after_letters units.old.budget store.now.top.macros code text.now (stream units.old.used self.old)) }
+        ensures end { OnOk result (self.new.end ≡ self.old.end) }
+        ensures budget { units.new.budget ≡ units.old.budget }
+        ensures used { OnOk result (units.old.used ≤ units.new.used) }
+        ensures work { OnOk result ((units.new.budget - units.new.used) + length self.new.rest
+            ≤ (units.old.budget - units.old.used) + length self.old.rest) }
+    {
+        for byte in text {
+            self.expect_next(code, char::from(*byte), store, units)?;
+        }
+        Ok(())
+    }
+
+    /// Asks that a token that was taken is that character. The fault stands at another token, or where the list runs out.
+    pub fn expect(&self, code: Code, token: Option<Tok>, wanted: char) -> Result<(), Fault>
+        ensures met { OnOk result (is_there (is_char wanted) token ≡ true) }
+        ensures missed { OnErr result (is_there (is_char wanted) token ≡ false) }
+        ensures fault { IfErr result (λ fault.
+            fault ≡ record { code = code; at = place_of self.now.end token }) }
+    {
+        require(is_there(token, wanted), code, self.place(token))
+    }
+
+    /// Where a token that was taken stands, or where the list runs out.
+    pub fn place(&self, token: Option<Tok>) -> u32
+        ensures { result ≡ place_of self.now.end token }
+    {
+        match token {
+            Some(tok) => tok.at,
+            None => self.end(),
+        }
+    }
+}
+
+/// Whether a token is there and is that character.
+pub fn is_there(token: Option<Tok>, wanted: char) -> bool
+    ensures { result ≡ is_there (is_char wanted) token }
+{
+    match token {
+        Some(tok) => tok.kind.is_char(wanted),
+        None => false,
+    }
+}
