@@ -1,10 +1,11 @@
 //! The state of a run.
 
-ghost use Rattle.std.specs.Prelude.{◌≡◌, ◌∷◌, ◌<◌, ◌≤◌, length, IfOk, OnOk, MatchResult, Ok, Err};
+ghost use Rattle.std.specs.Prelude.{◌≡◌, ℕ, ◌∷◌, ◌<◌, ◌≤◌, length, IfOk, OnOk, MatchResult, Ok, Err};
 ghost use Rattle.tk_token.specs.Refusals.{Gives};
 ghost use Rattle.tk_store.specs.Levels.{opened};
-ghost use Rattle.tk_expand.specs.Expand.{full, is_expanded};
-ghost use Rattle.tk_expand.specs.Reading.{taken, next, next_solid};
+ghost use Rattle.tk_token.specs.Kinds.{is_char};
+ghost use Rattle.tk_expand.specs.Expand.{full};
+ghost use Rattle.tk_expand.specs.Reading.{taken, next, next_solid, after_next, after_letters};
 ghost use Rattle.tk_expand.specs.Unread.{unread};
 ghost use Rattle.tk_keys.specs.Environment.{level};
 ghost use Rattle.tk_keys.specs.Given.{known_words};
@@ -13,7 +14,7 @@ ghost use Rattle.tk_keys.specs.State.{first_state, env_of, stream_of, Pays};
 use std::alloc::{AllocError, Global};
 use std::marker::Model;
 use std::sync::ledger::Ledger;
-use tk_expand::{Input, Units, expand_all, is_expanded, next_solid};
+use tk_expand::{Input, Units, expand_all};
 use tk_expr::FontUnits;
 use tk_store::{Steps, Store};
 use tk_token::{Code, Fault, Names, Refusal, Tok};
@@ -110,18 +111,41 @@ impl State {
             (next_solid self.old.budget (env_of self.old).macros (stream_of self.old input.old)) }
         ensures pays { Pays self.old self.new }
     {
-        next_solid(input, &self.store, &mut self.units)
+        input.next_solid(&self.store, &mut self.units)
     }
 
-    /// Whether a list is its own expansion: no token of it calls a macro. This takes no memory.
-    pub fn is_expanded(&self, list: &[Tok]) -> bool
-        ensures { result ≡ is_expanded (env_of self.now).macros list.now }
+    /// Asks that the next token of a list is that character.
+    pub fn expect_next(
+        &mut self,
+        input: &mut Input,
+        code: Code,
+        wanted: char,
+    ) -> Result<(), Refusal>
+        ensures gives { Gives (λ _. stream_of self.new input.new) result
+            (after_next self.old.budget (env_of self.old).macros code (is_char wanted) (stream_of self.old input.old)) }
+        ensures pays { Pays self.old self.new }
     {
-        is_expanded(list, &self.store)
+        input.expect_next(code, wanted, &self.store, &mut self.units)
     }
 
-    /// A list with no macro call left.
-    pub fn expand(&mut self, list: &[Tok]) -> Result<Vec<Tok>, Refusal>
+    /// Asks that the characters of a text are next in a list, with nothing between them.
+    pub fn expect_letters(
+        &mut self,
+        input: &mut Input,
+        code: Code,
+        text: &[u8],
+    ) -> Result<(), Refusal>
+        ensures gives { Gives (λ _. stream_of self.new input.new) result
+            (after_letters self.old.budget (env_of self.old).macros code text.now (stream_of self.old input.old)) }
+        ensures pays { Pays self.old self.new }
+    {
+        input.expect_letters(code, text, &self.store, &mut self.units)
+    }
+
+    /// A list with no macro call left. Where nothing in it calls, it is the list itself.
+    pub fn expand(&mut self, list: Vec<Tok>) -> Result<Vec<Tok>, Refusal>
+        ensures gives { (end : ℕ) → Gives (λ text. stream_of self.new (unread text.items end)) result
+            (full self.old.budget (env_of self.old).macros (stream_of self.old (unread list.items end))) }
         ensures pays { Pays self.old self.new }
     {
         expand_all(self.alloc, list, &self.store, &mut self.units)

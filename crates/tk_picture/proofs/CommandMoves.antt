@@ -28,7 +28,7 @@ use Rattle.tk_picture.specs.declared.Compiled.{Compiled}
 use Rattle.tk_picture.specs.Commands.{Opener, A_picture, A_group, Beginning, Begins_path, Opens_group, Closes_group, Ends_environment, Begins_other, beginning_of, Block, block, CommandFlow, with_path, with_setting, set_or_unbuilt, command, command_at, commands_step, block_work, commands}
 use Rattle.tk_picture.specs.Configurations.{Configuration, configuration, Progress, progress, progress_at, with_progress, stream_at, Lookahead, ahead_of}
 use Rattle.tk_picture.specs.Documents.{is_word, compiled, nothing_after, picture_behind, document}
-use Rattle.tk_picture.specs.Flow.{Flow, Goes_on, Ends, go_on}
+use Rattle.tk_picture.specs.Flow.{Flow, Goes_on, Finishes, go_on}
 use Rattle.tk_picture.specs.Paths.{path}
 use Rattle.tk_picture.specs.Pictures.{Picture, first_picture, drawn_by, drawn}
 use Rattle.tk_picture.proofs.Moving.{stream_back, At, Comes, Looks, Returns, then_returns, then_looks, looked, ahead_at}
@@ -48,7 +48,7 @@ module _ (P : ℕ → Type 0) (given : Given) (begin : P 0) (evaluates : Evaluat
   -- what a command leaves
   abbrev pub PartAt : Configuration → CommandFlow → Type 0
   PartAt c (Goes_on d) = Comes P given c d
-  PartAt c (Ends p) = Returns P given c p
+  PartAt c (Finishes p) = Returns P given c p
 
   level_at : (at : ℕ) (env : Env) → P at → BodiesAt P env.macros → Stands P (λ (e : Env). BodiesAt P e.macros) (level at env)
   level_at at env p h = if_at P (λ (e : Env). BodiesAt P e.macros) (nat_lt env.levels 128) (Ok (record env { levels = suc env.levels })) (fault Levels at) h p
@@ -91,7 +91,7 @@ module _ (P : ℕ → Type 0) (given : Given) (begin : P 0) (evaluates : Evaluat
 
     follows : (opener : Opener) (c : Configuration) (part : CommandFlow) → PartAt c part → Stands P (Returns P given c) (go_on (λ next. rec (block opener next)) part)
     follows opener c (Goes_on d) a = weaker_at P (Returns P given d) (Returns P given c) (rec (block opener d)) (λ p b. then_returns P given c d p a b) (h (block opener d) a.at)
-    follows opener c (Ends p) a = a
+    follows opener c (Finishes p) a = a
 
     step_moves : (b : Block) → At P given b.start → Stands P (Returns P given b.start) (commands_step given rec b)
     step_moves b k =

@@ -14,7 +14,7 @@ use Rattle.tk_expand.proofs.Falling.{Falls, LessLeft, Takes, falls_then, less_fa
 use Rattle.tk_expand.proofs.Places.{StandAt, Stands, StreamAt, BodiesAt}
 use Rattle.tk_keys.specs.Given.{Given}
 use Rattle.tk_picture.specs.Configurations.{Configuration, Progress, stream_at, with_stream, Lookahead, lookahead, place_ahead, must_be, ahead_of, behind_next, behind_letters}
-use Rattle.tk_picture.specs.Flow.{Flow, Goes_on, Ends}
+use Rattle.tk_picture.specs.Flow.{Flow, Goes_on, Finishes}
 use Rattle.tk_keys.proofs.Reading.{NextAt, place_at, next_solid_at, after_next_at, after_letters_at}
 use Rattle.tk_keys.proofs.Standing.{then_at, if_at, both_at}
 

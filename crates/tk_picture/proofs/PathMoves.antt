@@ -24,7 +24,7 @@ use Rattle.tk_expr.specs.Pairs.{paired, vector_of}
 use Rattle.tk_keys.specs.Given.{Given}
 use Rattle.tk_picture.specs.Configurations.{Configuration, Progress, stream_at, Lookahead, place_ahead, must_be, ahead_of, behind_next, behind_letters}
 use Rattle.tk_picture.specs.Coordinates.{centimetre, Reached, break_of, point_of, coordinate, point}
-use Rattle.tk_picture.specs.Flow.{Flow, Goes_on, Ends, go_on}
+use Rattle.tk_picture.specs.Flow.{Flow, Goes_on, Finishes, go_on}
 use Rattle.tk_picture.specs.Paths.{Stretch, stretch, PathOpener, A_path, PathFlow, drawn_with, letter_c, path_end, line, cycle, operation, path_part, operations_step, stretch_work, operations, path}
 use Rattle.tk_keys.proofs.Reading.{place_at, spaces_at}
 use Rattle.tk_picture.proofs.Moving.{At, Comes, Advances, Looks, Returns, comes, advances_then, then_advances, then_returns, then_looks, looked, must_at, ahead_at, next_at, letters_at}
@@ -66,7 +66,7 @@ module _ (P : ℕ → Type 0) (given : Given) (begin : P 0) (evaluates : Evaluat
   -- a part of a path leaves less
   abbrev pub PartAt : Configuration → PathFlow → Type 0
   PartAt c (Goes_on d) = Advances P given c d
-  PartAt c (Ends p) = Returns P given c p
+  PartAt c (Finishes p) = Returns P given c p
 
   end_at : (c : Configuration) (ahead : Lookahead) → Looks P given c ahead → Stands P (PartAt c) (path_end ahead)
   unfolding path_end
@@ -80,7 +80,7 @@ module _ (P : ℕ → Type 0) (given : Given) (begin : P 0) (evaluates : Evaluat
 
   part_further : (c d : Configuration) (part : PathFlow) → Comes P given c d → PartAt d part → PartAt c part
   part_further c d (Goes_on e) a b = then_advances P given c d e a b
-  part_further c d (Ends p) a b = then_returns P given c d p a b
+  part_further c d (Finishes p) a b = then_returns P given c d p a b
 
   cycle_at : (c : Configuration) → At P given c → Stands P (PartAt c) (cycle given c)
   unfolding cycle
@@ -111,7 +111,7 @@ module _ (P : ℕ → Type 0) (given : Given) (begin : P 0) (evaluates : Evaluat
   follows : (rec : Stretch → Answer Progress) → ((s : Stretch) → At P given s.start → Stands P (Returns P given s.start) (rec s)) → (opener : PathOpener) (c : Configuration) (part : PathFlow) → PartAt c part → Stands P (Returns P given c) (go_on (λ next. rec (stretch opener next)) part)
   follows rec h opener c (Goes_on d) a =
       weaker_at P (Returns P given d) (Returns P given c) (rec (stretch opener d)) (λ p b. then_returns P given c d p (comes P given c d a) b) (h (stretch opener d) a.at)
-  follows rec h opener c (Ends p) a = a
+  follows rec h opener c (Finishes p) a = a
 
   pub operations_at : (s : Stretch) → At P given s.start → Stands P (Returns P given s.start) (operations given s)
   unfolding operations

@@ -13,7 +13,7 @@ use Rattle.tk_keys.specs.Given.{Given}
 use Rattle.tk_keys.proofs.Standing.{ok_at, any_value}
 use Rattle.tk_picture.specs.Commands.{Opener, A_picture, A_group, Beginning, Begins_path, Opens_group, Closes_group, Ends_environment, Begins_other, beginning_of, Block, block, CommandFlow, command, command_at, commands_step, block_work, commands}
 use Rattle.tk_picture.specs.Configurations.{Configuration, Progress, with_progress, Lookahead, work_at, ahead_of}
-use Rattle.tk_picture.specs.Flow.{Flow, Goes_on, Ends, go_on}
+use Rattle.tk_picture.specs.Flow.{Flow, Goes_on, Finishes, go_on}
 use Rattle.tk_picture.specs.Paths.{Stretch, stretch, PathOpener, PathFlow, path_part, operations_step, stretch_work, operations}
 use Rattle.tk_picture.proofs.CommandMoves as moves
 use Rattle.tk_picture.proofs.Moving.{At, Comes, Advances, Looks, Returns, ahead_at}
@@ -47,7 +47,7 @@ module _ (given : Given) where
 
   follow_alike : (f g : Stretch → Answer Progress) (s : Stretch) → ((r : Stretch) → stretch_work given r < stretch_work given s → f r ≡ g r) → (part : PathFlow) → path_moves.PartAt Any given tt any_evaluates s.start part → go_on (λ next. f (stretch s.opener next)) part ≡ go_on (λ next. g (stretch s.opener next)) part
   follow_alike f g s alike (Goes_on d) h = alike (stretch s.opener d) (let a = h.less.less in omega arith)
-  follow_alike f g s alike (Ends p) h = refl
+  follow_alike f g s alike (Finishes p) h = refl
 
   operations_pinned : IsPinned (stretch_work given) (fault Budget 0) (operations_step given)
   operations_pinned f s alike =
@@ -91,7 +91,7 @@ module _ (given : Given) where
 
     next_alike : (c : Configuration) → work_at given c < block_work given b → (part : CommandFlow) → Falls c part → go_on (λ next. f (block b.opener next)) part ≡ go_on (λ next. commands given (block b.opener next)) part
     next_alike c less (Goes_on d) h = alike (block b.opener d) (let a = h.fell.work_falls in omega arith)
-    next_alike c less (Ends p) h = refl
+    next_alike c less (Finishes p) h = refl
 
     at_alike : (token : Option Tok) (c : Configuration) → work_at given c + length (option_to_list token) ≤ block_work given b → (command_at given f b.opener token c >>= go_on (λ next. f (block b.opener next))) ≡ (command_at given (commands given) b.opener token c >>= go_on (λ next. commands given (block b.opener next)))
     at_alike None c le = refl

@@ -11,7 +11,7 @@ use Rattle.tk_expand.specs.Reading.{after_name}
 use Rattle.tk_keys.specs.Environment.{Env, level}
 use Rattle.tk_keys.specs.Given.{Given}
 use Rattle.tk_keys.specs.Settings.{Set, one_setting}
-use Rattle.tk_picture.specs.Flow.{Flow, Goes_on, Ends, go_on}
+use Rattle.tk_picture.specs.Flow.{Flow, Goes_on, Finishes, go_on}
 use Rattle.tk_picture.specs.Paths.{path}
 use Rattle.tk_picture.specs.Pictures.{drawn}
 use Rattle.tk_picture.specs.Configurations.{Configuration, Progress, progress, progress_at, with_progress, stream_at, with_stream, work_at, ahead_of}
@@ -82,10 +82,10 @@ module _ (given : Given) where
       inside ← level t.at c.env
       group_behind ← commands (block (A_group t.at) (record c { env = inside }))
       Ok (Goes_on (with_progress c group_behind))
-    command Closes_group t (A_group at) c = Ok (Ends (progress_at c))
+    command Closes_group t (A_group at) c = Ok (Finishes (progress_at c))
     command Ends_environment t (A_picture at) c = do
       list ← after_name Unbuilt (codes "tikzpicture") c.list
-      Ok (Ends (progress c.picture list))
+      Ok (Finishes (progress c.picture list))
     command Begins_other t opener c = do
       set ← one_setting given t c.env (stream_at c)
       set_or_unbuilt t.at c set

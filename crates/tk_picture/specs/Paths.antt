@@ -9,7 +9,7 @@ use Rattle.tk_token.specs.Kinds.{is_char}
 use Rattle.tk_token.specs.Recursion.{by_size}
 use Rattle.tk_expand.specs.Reading.{is_there}
 use Rattle.tk_keys.specs.Given.{Given}
-use Rattle.tk_picture.specs.Flow.{Flow, Goes_on, Ends, go_on}
+use Rattle.tk_picture.specs.Flow.{Flow, Goes_on, Finishes, go_on}
 use Rattle.tk_picture.specs.Pictures.{with_seg}
 use Rattle.tk_picture.specs.Configurations.{Configuration, Progress, progress_at, Lookahead, must_be, work_at, ahead_of, behind_next, behind_letters}
 use Rattle.tk_picture.specs.Coordinates.{point}
@@ -43,7 +43,7 @@ letter_c = 99
 unfoldable pub path_end : Lookahead → Answer PathFlow
 path_end first = do
   behind ← must_be (is_char semicolon) first
-  Ok (Ends (progress_at behind))
+  Ok (Finishes (progress_at behind))
 
 module _ (given : Given) where
   -- a line to a coordinate

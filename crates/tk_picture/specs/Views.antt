@@ -6,10 +6,7 @@ use Rattle.tk_item.specs.declared.Seg.{Seg}
 use Rattle.tk_item.specs.Frame.{IsProper}
 use Rattle.tk_svg.specs.Fitting.{FitsItem, IsPath}
 use Rattle.tk_token.specs.declared.Tok.{Tok}
-use Rattle.tk_token.specs.Answers.{Answer, ◌>>=◌}
-use Rattle.tk_token.specs.Spaces.{trimmed}
-use Rattle.tk_expand.specs.Unread.{Unread, unread}
-use Rattle.tk_expand.specs.Expand.{stream, full}
+use Rattle.tk_expand.specs.Unread.{Unread}
 use Rattle.tk_expr.specs.Evaluated.{evaluated}
 use Rattle.tk_keys.specs.Given.{Given}
 use Rattle.tk_keys.specs.State.{env_of, given_of}
@@ -20,10 +17,10 @@ use Rattle.tk_picture.specs.declared.commands.Opener as code_opener
 use Rattle.tk_picture.specs.declared.commands.Opener.TheVariants as openers
 use Rattle.tk_picture.specs.declared.commands.Beginning as code_beginning
 use Rattle.tk_picture.specs.declared.commands.Beginning.TheVariants as beginnings
-use Rattle.tk_picture.specs.Flow.{Flow, Goes_on, Ends}
+use Rattle.tk_picture.specs.Flow.{Flow, Goes_on, Finishes}
 use Rattle.tk_picture.specs.Pictures.{Picture}
 use Rattle.tk_picture.specs.Configurations.{Configuration, configuration, Progress, progress, Lookahead, lookahead}
-use Rattle.tk_picture.specs.Coordinates.{Reached, point_of}
+use Rattle.tk_picture.specs.Coordinates.{Reached}
 use Rattle.tk_picture.specs.Commands.{Opener, A_picture, A_group, Beginning, Begins_path, Opens_group, Closes_group, Ends_environment, Begins_other}
 
 -- what is given for the run
@@ -49,7 +46,7 @@ lookahead_of first d segs list = lookahead first (configuration_of d segs list)
 -- what a part leaves
 abbrev pub flow_of : Drawer → List Seg → Unread → code_flow.Flow → Flow Configuration Progress
 flow_of d segs list flows.GoesOn = Goes_on (configuration_of d segs list)
-flow_of d segs list flows.Ends = Ends (progress_of d segs list)
+flow_of d segs list flows.Finishes = Finishes (progress_of d segs list)
 
 -- what commands stand in
 abbrev pub opener_of : code_opener.Opener → Opener
@@ -77,13 +74,6 @@ OnlyPays old new = new ≡ record old { state = record old.state { units = new.s
 -- a point that was read
 abbrev pub reached_of : Point → Drawer → List Seg → Unread → Reached
 reached_of point d segs list = record { point = point; behind = configuration_of d segs list }
-
--- the point of a coordinate's text as it is written, and the units paid then
-abbrev pub written_point : Drawer → List Tok → ℕ → Answer (Point × ℕ)
-written_point d written at = do
-  text ← full d.state.budget d.state.levels.top.macros (stream d.state.units (unread written at))
-  point ← point_of evaluated d.state.font at (trimmed text.list.rest)
-  Ok (point, text.units)
 
 -- what was given stays, and so do the levels further out
 pub record Keeps (old new : Drawer) : Type 0 where

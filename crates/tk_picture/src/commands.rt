@@ -48,7 +48,7 @@ impl Drawer {
             let first = self.ahead(input)?;
             match self.command_at(input, opener, first)? {
                 Flow::GoesOn => {}
-                Flow::Ends => return Ok(()),
+                Flow::Finishes => return Ok(()),
             }
         }
     }
@@ -92,13 +92,13 @@ impl Drawer {
             Beginning::Path => self.draw(input, first),
             Beginning::OpenGroup => self.group(input, first),
             Beginning::CloseGroup => match opener {
-                Opener::Group(_) => Ok(Flow::Ends),
+                Opener::Group(_) => Ok(Flow::Finishes),
                 Opener::Picture(_) => Err(unbuilt(first.at).into()),
             },
             Beginning::EndEnvironment => match opener {
                 Opener::Picture(_) => {
                     input.expect_name(Code::Unbuilt, b"tikzpicture")?;
-                    Ok(Flow::Ends)
+                    Ok(Flow::Finishes)
                 }
                 Opener::Group(_) => Err(unbuilt(first.at).into()),
             },

@@ -10,7 +10,7 @@ ghost use Rattle.tk_token.specs.Refusals.{Gives};
 ghost use Rattle.tk_expand.specs.Tells.{Tells};
 ghost use Rattle.tk_expr.specs.Evaluated.{evaluated};
 ghost use Rattle.tk_picture.specs.Coordinates.{break_of, point_of, coordinate, point};
-ghost use Rattle.tk_picture.specs.Views.{given_to, configuration_of, lookahead_of, reached_of, written_point, OnlyPays};
+ghost use Rattle.tk_picture.specs.Views.{given_to, configuration_of, lookahead_of, reached_of, OnlyPays};
 
 use crate::drawer::{Drawer, scaled, unbuilt};
 use std::alloc::{AllocError, Global};
@@ -46,20 +46,8 @@ impl Drawer {
         ensures pays { OnOk result (OnlyPays self.old self.new) }
     {
         let written = written_text(self.state.allocator(), input)?;
-        self.expanded_point(&written, at)
-    }
-
-    /// The point of a coordinate's text as it is written, which is expanded where a token of it calls a macro.
-    fn expanded_point(&mut self, written: &[Tok], at: u32) -> Result<Point, Refusal>
-        ensures gives { Gives (λ point. (point, self.new.state.units)) result (written_point self.old written.now at) }
-        ensures pays { OnlyPays self.old self.new }
-    {
-        let font = self.state.font_units();
-        if self.state.is_expanded(written) {
-            return Ok(point_of(trimmed(written), font, at)?);
-        }
         let text = self.state.expand(written)?;
-        Ok(point_of(trimmed(&text), font, at)?)
+        Ok(point_of(trimmed(&text), self.state.font_units(), at)?)
     }
 }
 

@@ -27,7 +27,7 @@ const MITER_LIMIT: i64 = 10 * 65_536;
 #[derive(Clone, Copy)]
 pub(crate) enum Flow {
     GoesOn,
-    Ends,
+    Finishes,
 }
 
 /// A picture as it is drawn: the state of the run, the items so far, and the frame round them. Each item is a path that

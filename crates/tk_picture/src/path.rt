@@ -38,7 +38,7 @@ impl Drawer {
         loop {
             match self.path_part(input, segs)? {
                 Flow::GoesOn => {}
-                Flow::Ends => return Ok(()),
+                Flow::Finishes => return Ok(()),
             }
         }
     }
@@ -66,7 +66,7 @@ impl Drawer {
             (path_end (lookahead_of first self.now segs.now input.now)) }
     {
         input.expect(Code::Unbuilt, first, ';')?;
-        Ok(Flow::Ends)
+        Ok(Flow::Finishes)
     }
 
     /// Reads `--` and its target, where the first token was taken.
