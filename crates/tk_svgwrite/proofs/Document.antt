@@ -16,9 +16,9 @@ use Rattle.tk_item.specs.declared.Frame.{Frame}
 use Rattle.tk_item.specs.declared.Item.{Item}
 use Rattle.tk_item.specs.declared.Item.TheVariants.{Path, Label}
 use Rattle.tk_item.specs.declared.Drawing.{Drawing}
-use Rattle.tk_svg.specs.Scan.{is_xml_char, is_blank, is_name_byte, is_value_byte, after_blanks, Attribute, attribute, Attributes, none, one, EndsTag, IsName, are_among, are_distinct}
+use Rattle.tk_svg.specs.Scan.{is_xml_char, is_xml_blank, is_name_byte, is_value_byte, after_blanks, Attribute, attribute, Attributes, none, one, EndsTag, IsName, are_among, are_distinct}
 use Rattle.tk_svg.specs.Paint.{paint_names}
-use Rattle.tk_svg.specs.Document.{IsPathElement, Content, IsSvg, IsDocument, IsFamily, is_family_char, size_of, points_of, declaration}
+use Rattle.tk_svg.specs.Document.{IsPathElement, Content, IsSvg, IsDocument, IsFamily, is_family_char, size_of, points_value, declaration}
 use Rattle.tk_svg.specs.Document as doc
 use Rattle.tk_svg.specs.Fitting.{Fits, FitsItem, IsPath, FitsBox}
 use Rattle.tk_svg.proofs.Numbers.{number_back}
@@ -41,7 +41,7 @@ weaker p q f (c ∷ cs) h =
 plain_is_value : (c : ℕ) → is_plain c ≡ true → is_value_byte c ≡ true
 plain_is_value c h = grind (arith, nat_tests)
 
-name_no_blank : (c : ℕ) → is_name_byte c ≡ true → is_blank c ≡ false
+name_no_blank : (c : ℕ) → is_name_byte c ≡ true → is_xml_blank c ≡ false
 name_no_blank c h = grind (arith, nat_tests)
 
 name_starts : (name rest : List ℕ) → IsName name → after_blanks (name ++ rest) ≡ name ++ rest
@@ -189,7 +189,7 @@ size_fits w le =
 points_plain : (w : ℤ) → FitsBox w → list_all is_plain (points_text w) ≡ true
 points_plain w le = all_both is_plain (text_of (size_of w)) (codes "pt") (text_plain (size_of w) (size_fits w le)) refl
 
-points_back : (w : ℤ) → FitsBox w → points_of (points_text w) ≡ Some (size_of w)
+points_back : (w : ℤ) → FitsBox w → points_value (points_text w) ≡ Some (size_of w)
 points_back w le = rw (number_back (size_of w) (codes "pt") (size_fits w le) (refl, refl)) refl
 
 family_plain : (c : ℕ) → is_family_char c ≡ true → is_plain c ≡ true
