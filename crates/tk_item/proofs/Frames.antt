@@ -13,7 +13,7 @@ use Rattle.tk_num.specs.Number.{IsScaled}
 use Rattle.tk_item.specs.declared.Frame.{Frame}
 use Rattle.tk_item.specs.declared.Point.{Point}
 use Rattle.tk_item.specs.declared.Seg.{Seg}
-use Rattle.tk_item.specs.Frame.{points_of, points_of_piece, box_round, joined, with_box, round_boxes, round_points, IsWithin, AreWithin, IsLeastRound, IsProper}
+use Rattle.tk_item.specs.Frame.{points_of_path, points_of_piece, box_round, joined, with_box, round_boxes, round_points, IsWithin, AreWithin, IsLeastRound, IsProperFrame}
 
 -- ---- one box within another
 
@@ -103,8 +103,8 @@ pub round_points-append : (half : ℤ) (frame : Option Frame) (xs ys : List Poin
 round_points-append half frame xs ys = rw (map-append (box_round half) xs ys) (fold-append with_box frame (map (box_round half) xs) (map (box_round half) ys))
 
 -- pieces after pieces
-pub round_pieces-append : (half : ℤ) (frame : Option Frame) (xs ys : List Seg) → round_points half frame (points_of (xs ++ ys)) ≡ round_points half (round_points half frame (points_of xs)) (points_of ys)
-round_pieces-append half frame xs ys = rw (flat_map-append points_of_piece xs ys) (round_points-append half frame (points_of xs) (points_of ys))
+pub round_pieces-append : (half : ℤ) (frame : Option Frame) (xs ys : List Seg) → round_points half frame (points_of_path (xs ++ ys)) ≡ round_points half (round_points half frame (points_of_path xs)) (points_of_path ys)
+round_pieces-append half frame xs ys = rw (flat_map-append points_of_piece xs ys) (round_points-append half frame (points_of_path xs) (points_of_path ys))
 
 -- ---- the code's steps
 
@@ -113,12 +113,12 @@ pub curve_widens : (half : ℤ) (frame : Option Frame) (p q r : Point) (f g h : 
 curve_widens half frame p q r f g h first second third = rw first cc
 
 -- all pieces, once the loop has passed them
-pub all_pieces : (half : ℤ) (frame r : Option Frame) (segs : List Seg) (i : ℕ) → length segs ≤ i → r ≡ round_points half frame (points_of (take i segs)) → r ≡ round_points half frame (points_of segs)
+pub all_pieces : (half : ℤ) (frame r : Option Frame) (segs : List Seg) (i : ℕ) → length segs ≤ i → r ≡ round_points half frame (points_of_path (take i segs)) → r ≡ round_points half frame (points_of_path segs)
 all_pieces half frame r segs i passed so_far = rw (take_all i segs passed) at so_far
 
 -- ---- the range
 
-pub joined_proper : (f g : Frame) → IsProper f → IsProper g → IsProper (joined f g)
+pub joined_proper : (f g : Frame) → IsProperFrame f → IsProperFrame g → IsProperFrame (joined f g)
 joined_proper f g a b = record {
   across = omega (arith, ints, clamps);
   upward = omega (arith, ints, clamps);
@@ -128,7 +128,7 @@ joined_proper f g a b = record {
   top = omega (arith, ints, clamps);
 }
 
-pub box_proper : (half : ℤ) (p : Point) → pos 0 ≤ℤ half → half ≤ℤ pos 536870912 → IsScaled p.x → IsScaled p.y → IsProper (box_round half p)
+pub box_proper : (half : ℤ) (p : Point) → pos 0 ≤ℤ half → half ≤ℤ pos 536870912 → IsScaled p.x → IsScaled p.y → IsProperFrame (box_round half p)
 box_proper half p low high x_in y_in = record {
   across = omega (arith, ints);
   upward = omega (arith, ints);
@@ -138,14 +138,14 @@ box_proper half p low high x_in y_in = record {
   top = omega (arith, ints);
 }
 
-boxes_proper : (frame : Option Frame) (boxes : List Frame) → All IsProper boxes → IfSome frame IsProper → IfSome (round_boxes frame boxes) IsProper
+boxes_proper : (frame : Option Frame) (boxes : List Frame) → All IsProperFrame boxes → IfSome frame IsProperFrame → IfSome (round_boxes frame boxes) IsProperFrame
 boxes_proper frame [] all fine = fine
-boxes_proper None (g ∷ boxes) all fine = boxes_proper (Some g) boxes (All-tail IsProper g boxes all) (All-head IsProper g boxes all)
-boxes_proper (Some f) (g ∷ boxes) all fine = boxes_proper (Some (joined f g)) boxes (All-tail IsProper g boxes all) (joined_proper f g fine (All-head IsProper g boxes all))
+boxes_proper None (g ∷ boxes) all fine = boxes_proper (Some g) boxes (All-tail IsProperFrame g boxes all) (All-head IsProperFrame g boxes all)
+boxes_proper (Some f) (g ∷ boxes) all fine = boxes_proper (Some (joined f g)) boxes (All-tail IsProperFrame g boxes all) (joined_proper f g fine (All-head IsProperFrame g boxes all))
 
 abbrev IsScaledPoint : Point → Type 0
 IsScaledPoint p = IsScaled p.x × IsScaled p.y
 
 -- a frame round scaled points stays within its range
-pub points_proper : (half : ℤ) (frame : Option Frame) (points : List Point) → pos 0 ≤ℤ half → half ≤ℤ pos 536870912 → All (λ p. IsScaled p.x × IsScaled p.y) points → IfSome frame IsProper → IfSome (round_points half frame points) IsProper
-points_proper half frame points low high scaled fine = boxes_proper frame (map (box_round half) points) (All-map IsProper (box_round half) points (All-weaker IsScaledPoint (λ p. IsProper (box_round half p)) (λ p both. box_proper half p low high both.0 both.1) points scaled)) fine
+pub points_proper : (half : ℤ) (frame : Option Frame) (points : List Point) → pos 0 ≤ℤ half → half ≤ℤ pos 536870912 → All (λ p. IsScaled p.x × IsScaled p.y) points → IfSome frame IsProperFrame → IfSome (round_points half frame points) IsProperFrame
+points_proper half frame points low high scaled fine = boxes_proper frame (map (box_round half) points) (All-map IsProperFrame (box_round half) points (All-weaker IsScaledPoint (λ p. IsProperFrame (box_round half p)) (λ p both. box_proper half p low high both.0 both.1) points scaled)) fine

@@ -1,5 +1,5 @@
 -- The frame of a drawing: the least box round its points, each widened by a half width.
-use Rattle.std.specs.Prelude.{List, [], ◌∷◌, ◌++◌, map, Option, Some, None, ℤ, ◌+ℤ◌, ◌-ℤ◌, ◌≤ℤ◌, ◌≤◌, unsigned_abs}
+use Rattle.std.specs.Prelude.{List, [], ◌∷◌, ◌++◌, map, Option, Some, None, ℤ, ◌+ℤ◌, ◌-ℤ◌, ◌≤ℤ◌, ◌≤◌, pos, int_div, unsigned_abs}
 use Rattle.std.specs.Int.{int_min, int_max}
 use Rattle.std.specs.List.{All, flat_map, fold}
 use Rattle.std.specs.Option.{option_to_list}
@@ -15,17 +15,33 @@ points_of_piece (Line p) = p ∷ []
 points_of_piece (Curve p q r) = p ∷ q ∷ r ∷ []
 points_of_piece Close = []
 
--- those of several pieces, in order
-abbrev pub points_of : List Seg → List Point
-points_of segs = flat_map points_of_piece segs
+-- those of a path, in order
+abbrev pub points_of_path : List Seg → List Point
+points_of_path segs = flat_map points_of_piece segs
+
+-- half of a width, rounded up: 13107 of 26214, and 13108 of 26215
+abbrev pub half_width : ℤ → ℤ
+half_width width = int_div (width +ℤ pos 1) (pos 2)
 
 -- the box round a point that is widened on four sides
 abbrev pub box_round : ℤ → Point → Frame
-box_round half p = record { left = p.x -ℤ half; bottom = p.y -ℤ half; right = p.x +ℤ half; top = p.y +ℤ half }
+box_round half p =
+    record {
+      left = p.x -ℤ half;
+      bottom = p.y -ℤ half;
+      right = p.x +ℤ half;
+      top = p.y +ℤ half;
+    }
 
 -- the least box round two
 abbrev pub joined : Frame → Frame → Frame
-joined f g = record { left = int_min f.left g.left; bottom = int_min f.bottom g.bottom; right = int_max f.right g.right; top = int_max f.top g.top }
+joined f g =
+    record {
+      left = int_min f.left g.left;
+      bottom = int_min f.bottom g.bottom;
+      right = int_max f.right g.right;
+      top = int_max f.top g.top;
+    }
 
 -- the least box round one that may be missing and another
 abbrev pub with_box : Option Frame → Frame → Option Frame
@@ -64,8 +80,8 @@ boxes_of half frame points = option_to_list frame ++ map (box_round half) points
 
 -- ---- how large a frame is
 
--- the sides are in order, and none is further out than 1073741823 + 536870912
-pub record IsProper (f : Frame) : Type 0 where
+-- the sides are in order, and none is further out than the greatest number and the greatest half width: 1073741823 + 536870912
+pub record IsProperFrame (f : Frame) : Type 0 where
   pub across : f.left ≤ℤ f.right
   pub upward : f.bottom ≤ℤ f.top
   pub left : unsigned_abs f.left ≤ 1610612735

@@ -8,7 +8,7 @@ mod lists;
 #[cfg(test)]
 mod tests;
 
-pub use bounds::widen;
+pub use bounds::{half_width, widen};
 pub use dashes::Dashes;
 pub use laws::frames_are_least;
 pub use lists::{Items, Segs, Text};

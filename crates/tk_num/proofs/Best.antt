@@ -3,7 +3,7 @@ use Rattle.std.proofs.Common.{◌≡◌, ℕ, zero, suc, ◌^◌, ◌<◌, ◌�
 use Rattle.std.proofs.lemmas.Bool.{cases_lt}
 use Rattle.std.proofs.lemmas.Bool.Decides.{nat_tests}
 use Rattle.tk_num.specs.Number.{nearest_65536th}
-use Rattle.tk_num.specs.Text.{nearest_digits, reads_back, fewest_digits, distance, Reads, IsBest}
+use Rattle.tk_num.specs.Text.{nearest_digits, reads_back, fewest_digits, distance, ReadsAs, IsBest}
 
 -- whatever digits read as the fraction, the nearest do
 again_1 : (f m : ℕ) → nearest_65536th 1 m ≡ f → nearest_65536th 1 (nearest_digits 1 f) ≡ f
@@ -36,7 +36,7 @@ by_count P p1 p2 p3 p4 p5 (suc (suc (suc (suc (suc zero))))) low high = p5
 by_count P p1 p2 p3 p4 p5 (suc (suc (suc (suc (suc (suc n)))))) low high = absurd (omega arith)
 
 -- whatever digits read as the fraction, the nearest do
-again : (f : ℕ) → f < 65536 → (n d : ℕ) → Reads f n d → reads_back n f ≡ true
+again : (f : ℕ) → f < 65536 → (n d : ℕ) → ReadsAs f n d → reads_back n f ≡ true
 again f lt n d r =
     by_count (λ k. nearest_65536th k d ≡ f → reads_back k f ≡ true)
     (λ e. eq-eqb _ _ (again_1 f d e)) (λ e. eq-eqb _ _ (again_2 f d e)) (λ e. eq-eqb _ _ (again_3 f d e)) (λ e. eq-eqb _ _ (again_4 f d e)) (λ e. eq-eqb _ _ (always_5 f lt))
@@ -56,7 +56,7 @@ short : (f n : ℕ) → f < 65536 → 1 ≤ n → n ≤ 5 → nearest_65536th n 
 short f n lt low high =
     by_count (λ k. nearest_65536th k (nearest_digits k f) ≡ f → nearest_digits k f < 10 ^ k) (λ e. omega arith) (λ e. omega arith) (λ e. omega arith) (λ e. omega arith) (λ e. omega arith) n low high
 
-best_at : (f n : ℕ) → f < 65536 → 1 ≤ n → n ≤ 5 → reads_back n f ≡ true → ((k d : ℕ) → Reads f k d → n ≤ k) → IsBest f n (nearest_digits n f)
+best_at : (f n : ℕ) → f < 65536 → 1 ≤ n → n ≤ 5 → reads_back n f ≡ true → ((k d : ℕ) → ReadsAs f k d → n ≤ k) → IsBest f n (nearest_digits n f)
 best_at f n lt low high back least =
     let reads : nearest_65536th n (nearest_digits n f) ≡ f = eq-from_eqb (nearest_65536th n (nearest_digits n f)) f back in
     record {
@@ -67,7 +67,7 @@ best_at f n lt low high back least =
     }
 
 -- one that reads back is at least n, where none below does
-least_from : (f n : ℕ) → f < 65536 → ((k : ℕ) → 1 ≤ k → k < n → reads_back k f ≡ false) → (k d : ℕ) → Reads f k d → n ≤ k
+least_from : (f n : ℕ) → f < 65536 → ((k : ℕ) → 1 ≤ k → k < n → reads_back k f ≡ false) → (k d : ℕ) → ReadsAs f k d → n ≤ k
 least_from f n lt below k d r =
     elim (cases_lt k n) [
       | inl less ↦ absurd (let yes = again f lt k d r in let no = below k r.some less in cc)

@@ -8,7 +8,7 @@ use Rattle.std.specs.Str.Parse.{digits_value}
 use Rattle.std.specs.Fmt.{decimal}
 use Rattle.std.proofs.lemmas.Int.Digits.{digits_value-lt}
 use Rattle.tk_num.specs.Number.{nearest_65536th, whole_digits, part_digits, is_decimal, decimal_value, fraction_of}
-use Rattle.tk_num.specs.Text.{IsPointed, ReadsBack, IsChosen, IsBest, Reads, IsTextOf, IsPointedTextOf, distance, places, number_of, fixed_digits, fewest_digits, nearest_digits, part_text, sign_text, pointed_text, text_of, is_lone_zero, without_zero}
+use Rattle.tk_num.specs.Text.{IsPointed, ReadsBack, IsChosen, IsBest, ReadsAs, IsTextOf, IsPointedTextOf, distance, distance_from, places, number_without_point, fixed_digits, fewest_digits, nearest_digits, part_text, sign_text, pointed_text, text_of, is_lone_zero, without_zero}
 use Rattle.tk_num.proofs.Best.{is_best, by_count}
 use Rattle.tk_num.proofs.Fixed.{both, passes, are_digits, fixed_all, length-fixed, value-fixed, fraction-fixed, fraction_is, decimal_all, decimal_some, value-decimal, no_needless_zero, value-append, whole-joined, part-joined}
 
@@ -27,8 +27,8 @@ no_carry k d low high = by_count (λ n. d < 10 ^ n → nearest_65536th n d < 655
 -- a text that reads back has the whole part, and digits that read as the fraction
 pub record Splits (n : ℕ) (text : List ℕ) : Type 0 where
   pub whole : digits_value 10 (whole_digits text) ≡ n / 65536
-  pub part : Reads (n % 65536) (places text) (digits_value 10 (part_digits text))
-  pub number : number_of text ≡ n / 65536 * 10 ^ places text + digits_value 10 (part_digits text)
+  pub part : ReadsAs (n % 65536) (places text) (digits_value 10 (part_digits text))
+  pub number : number_without_point text ≡ n / 65536 * 10 ^ places text + digits_value 10 (part_digits text)
 
 pub splits : (n : ℕ) (text : List ℕ) → ReadsBack n text → Splits n text
 splits n text r =
@@ -59,7 +59,7 @@ distance-shift k w d n e = by_power (10 ^ k) w d n (n % 65536) (omega arith)
     by_power : (p w d n f : ℕ) → n ≡ 65536 * w + f → (65536 * (w * p + d) - p * n) + (p * n - 65536 * (w * p + d)) ≡ (65536 * d - p * f) + (p * f - 65536 * d)
     by_power p w d n f e = rw e (omega arith)
 
-pub distance_of : (n : ℕ) (text : List ℕ) → Splits n text → distance (places text) (number_of text) n ≡ distance (places text) (digits_value 10 (part_digits text)) (n % 65536)
+pub distance_of : (n : ℕ) (text : List ℕ) → Splits n text → distance (places text) (number_without_point text) n ≡ distance (places text) (digits_value 10 (part_digits text)) (n % 65536)
 distance_of n text s = ap (λ m. distance (places text) m n) s.number ∙ distance-shift (places text) (n / 65536) (digits_value 10 (part_digits text)) n refl
 
 -- ---- the text that is found
@@ -118,9 +118,9 @@ size_reads n lt = record { pointed = pointed_size n lt; value = value-size n lt 
 
 -- a text with k places that reads back
 record AtPlaces (n k : ℕ) (text : List ℕ) : Type 0 where
-  reads : Reads (n % 65536) k (digits_value 10 (part_digits text))
-  far : distance k (number_of text) n ≡ distance k (digits_value 10 (part_digits text)) (n % 65536)
-  number : number_of text ≡ n / 65536 * 10 ^ k + digits_value 10 (part_digits text)
+  reads : ReadsAs (n % 65536) k (digits_value 10 (part_digits text))
+  far : distance_from n text ≡ distance k (digits_value 10 (part_digits text)) (n % 65536)
+  number : number_without_point text ≡ n / 65536 * 10 ^ k + digits_value 10 (part_digits text)
 
 at_places : (n k : ℕ) (text : List ℕ) → ReadsBack n text → places text ≡ k → AtPlaces n k text
 at_places n k text r e =
@@ -142,17 +142,17 @@ size_chosen n lt =
     let best = best_of n in
     let here : places t ≡ k = places-size n lt in
     let mine = at_places n k t (size_reads n lt) here in
-    let far : distance k (number_of t) n ≡ distance k m f = mine.far ∙ ap (λ d. distance k d f) (part_value n lt) in
+    let far : distance_from n t ≡ distance k m f = mine.far ∙ ap (λ d. distance k d f) (part_value n lt) in
     record {
       reads = size_reads n lt;
       fewest = λ other r. (let least = best.fewest (places other) (digits_value 10 (part_digits other)) (splits n other r).part in omega (arith, here, least));
       nearest = λ other r same.
           (let o = at_places n k other r (same ∙ here) in
-          subst (λ j. distance j (number_of t) n ≤ distance j (number_of other) n) (sym here) (le_through _ _ _ _ far o.far (best.nearest (digits_value 10 (part_digits other)) o.reads)));
+          le_through _ _ _ _ far o.far (best.nearest (digits_value 10 (part_digits other)) o.reads));
       greatest = λ other r same eq.
           (let o = at_places n k other r (same ∙ here) in
-          let tie : distance k m f ≡ distance k (digits_value 10 (part_digits other)) f = sym far ∙ subst (λ j. distance j (number_of t) n ≡ distance j (number_of other) n) here eq ∙ o.far in
-          greater (n / 65536 * 10 ^ k) m (digits_value 10 (part_digits other)) (number_of t) (number_of other) (mine.number ∙ ap (λ d. n / 65536 * 10 ^ k + d) (part_value n lt)) o.number (best.greatest (digits_value 10 (part_digits other)) o.reads tie));
+          let tie : distance k m f ≡ distance k (digits_value 10 (part_digits other)) f = sym far ∙ eq ∙ o.far in
+          greater (n / 65536 * 10 ^ k) m (digits_value 10 (part_digits other)) (number_without_point t) (number_without_point other) (mine.number ∙ ap (λ d. n / 65536 * 10 ^ k + d) (part_value n lt)) o.number (best.greatest (digits_value 10 (part_digits other)) o.reads tie));
     }
 
 -- ---- the texts with their sign
@@ -174,7 +174,7 @@ one_digit f m ne lt e = not_same (48 + m % 10) 48 (λ h. ne (omega arith))
     not_same a b h = grind (arith, nat_tests)
 
 -- digits that read as some fraction are no lone zero
-some_digits : (f k m : ℕ) → f ≢ 0 → Reads f k m → is_lone_zero (fixed_digits k m) ≡ false
+some_digits : (f k m : ℕ) → f ≢ 0 → ReadsAs f k m → is_lone_zero (fixed_digits k m) ≡ false
 some_digits f k m ne r =
     by_count (λ n. m < 10 ^ n → nearest_65536th n m ≡ f → is_lone_zero (fixed_digits n m) ≡ false)
     (λ lt e. one_digit f m ne lt e) (λ lt e. refl) (λ lt e. refl) (λ lt e. refl) (λ lt e. refl)

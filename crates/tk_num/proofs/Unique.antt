@@ -9,7 +9,7 @@ use Rattle.std.proofs.lemmas.Int.Digits.{digits_value-lt}
 use Rattle.std.proofs.lemmas.Nat.{div-mul-add}
 use Rattle.std.proofs.lemmas.Str.Parse.{IsNumeralModel}
 use Rattle.tk_num.specs.Number.{whole_digits, part_digits}
-use Rattle.tk_num.specs.Text.{IsChosen, ReadsBack, IsTextOf, IsPointedTextOf, places, number_of, distance, sign_text, pointed_text, text_of, without_zero}
+use Rattle.tk_num.specs.Text.{IsChosen, ReadsBack, IsTextOf, IsPointedTextOf, places, number_without_point, distance_from, sign_text, pointed_text, text_of, without_zero}
 use Rattle.tk_num.proofs.Chosen.{size_text, size_chosen, splits, text-is, pointed-is, whole_passes, part_passes, whole-size}
 use Rattle.tk_num.proofs.Fixed.{are_digits, value-append}
 
@@ -59,11 +59,11 @@ whole_same n text lt r =
     sym (decimal-digits_value numerals ds all r.pointed.whole (lone ds r.pointed.whole r.pointed.needed) (omega (arith, value)))
     ∙ ap decimal value
 
-part_same : (n : ℕ) (a b : List ℕ) → ReadsBack n a → ReadsBack n b → places a ≡ places b → number_of a ≡ number_of b → part_digits a ≡ part_digits b
+part_same : (n : ℕ) (a b : List ℕ) → ReadsBack n a → ReadsBack n b → places a ≡ places b → number_without_point a ≡ number_without_point b → part_digits a ≡ part_digits b
 part_same n a b r s count number =
     let p : ℕ = n / 65536 * 10 ^ places a in
     let here = (splits n a r).number in
-    let there : number_of b ≡ p + digits_value 10 (part_digits b) = (splits n b s).number ∙ ap (λ j. n / 65536 * 10 ^ j + digits_value 10 (part_digits b)) (sym count) in
+    let there : number_without_point b ≡ p + digits_value 10 (part_digits b) = (splits n b s).number ∙ ap (λ j. n / 65536 * 10 ^ j + digits_value 10 (part_digits b)) (sym count) in
     let value : digits_value 10 (part_digits a) ≡ digits_value 10 (part_digits b) = rest_same p _ _ (sym here ∙ number ∙ there) in
     same_digits (part_digits a) (part_digits b) (are_digits _ (part_passes a r.pointed.digits)) (are_digits _ (part_passes b s.pointed.digits)) count value
 
@@ -72,12 +72,12 @@ only_chosen n text lt h =
     let t : List ℕ = size_text n in
     let k = size_chosen n lt in
     let count : places text ≡ places t = (let a = h.fewest t k.reads in let b = k.fewest text h.reads in omega arith) in
-    let near : distance (places text) (number_of text) n ≤ distance (places text) (number_of t) n = h.nearest t k.reads (sym count) in
-    let near2 : distance (places text) (number_of t) n ≤ distance (places text) (number_of text) n = subst (λ j. distance j (number_of t) n ≤ distance j (number_of text) n) (sym count) (k.nearest text h.reads count) in
-    let tie : distance (places text) (number_of text) n ≡ distance (places text) (number_of t) n = same _ _ near near2 in
-    let up : number_of t ≤ number_of text = h.greatest t k.reads (sym count) tie in
-    let down : number_of text ≤ number_of t = k.greatest text h.reads count (subst (λ j. distance j (number_of t) n ≡ distance j (number_of text) n) count (sym tie)) in
-    let number : number_of text ≡ number_of t = same _ _ down up in
+    let near : distance_from n text ≤ distance_from n t = h.nearest t k.reads (sym count) in
+    let near2 : distance_from n t ≤ distance_from n text = k.nearest text h.reads count in
+    let tie : distance_from n text ≡ distance_from n t = same _ _ near near2 in
+    let up : number_without_point t ≤ number_without_point text = h.greatest t k.reads (sym count) tie in
+    let down : number_without_point text ≤ number_without_point t = k.greatest text h.reads count (sym tie) in
+    let number : number_without_point text ≡ number_without_point t = same _ _ down up in
     let whole : whole_digits text ≡ whole_digits t = whole_same n text lt h.reads ∙ sym (whole-size n lt) in
     let part : part_digits text ≡ part_digits t = part_same n text t h.reads k.reads count number in
     h.reads.pointed.point

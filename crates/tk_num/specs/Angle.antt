@@ -24,7 +24,9 @@ degrees n = 65536 * n
 
 -- the sine up to 90 degrees, on the straight line between two whole degrees, cut downward
 abbrev pub quarter_sine : ℕ → ℕ
-quarter_sine a = slice_index sines (a / 65536) + (slice_index sines (a / 65536 + 1) - slice_index sines (a / 65536)) * (a % 65536) / 65536
+quarter_sine a =
+    slice_index sines (a / 65536)
+    + (slice_index sines (a / 65536 + 1) - slice_index sines (a / 65536)) * (a % 65536) / 65536
 
 -- the sine up to 180 degrees: past 90 it is that of 180 minus the angle
 abbrev pub half_sine : ℕ → ℕ

@@ -1,4 +1,4 @@
--- Numbers in 65536ths of a point, by exact fractions (Knuth, TeX: The Program, part 7).
+-- Numbers in 65536ths of a point, by exact fractions (Knuth, TeX: The Program, sections 99 to 107).
 use Rattle.std.specs.Prelude.{ℕ, zero, suc, ◌+◌, ◌*◌, ◌/◌, ◌%◌, ◌^◌, ◌<◌, ◌≤◌, Bool, ◌&&◌, ◌==◌, nat_lt, nat_le, if◌then◌else◌, List, length, take, Option, Some, None, Result, Ok, Err, ℤ, pos, negsuc, ◌*ℤ◌, ◌≤ℤ◌, int_div, unsigned_abs}
 use Rattle.std.specs.List.{list_all, before_first, after_first}
 use Rattle.std.specs.Char.{is_ascii_digit}
@@ -29,7 +29,10 @@ quotient x y = if unsigned_abs y == 0 then Err DivZero else scaled (int_div (x *
 -- the greatest whole number whose square is at most n: it grows by one where the next square is reached
 unfoldable pub floor_root : ℕ → ℕ
 floor_root zero = 0
-floor_root (suc n) = if nat_le ((floor_root n + 1) * (floor_root n + 1)) (suc n) then floor_root n + 1 else floor_root n
+floor_root (suc n) =
+    if nat_le ((floor_root n + 1) * (floor_root n + 1)) (suc n)
+    then floor_root n + 1
+    else floor_root n
 
 -- r * r is at most n, and the next square is greater
 pub record IsFloorRoot (n r : ℕ) : Type 0 where
@@ -43,13 +46,17 @@ square_root (negsuc n) = Err Domain
 
 -- ---- decimals
 
--- the 65536ths nearest to the fraction whose n digits after the point are those of m, ties upward (module 102)
+-- the 65536ths nearest to the fraction whose n digits after the point are those of m, ties upward (Knuth, TeX: The Program, section 102)
 abbrev pub nearest_65536th : ℕ → ℕ → ℕ
 nearest_65536th n m = (131072 * m + 10 ^ n) / (2 * 10 ^ n)
 
 -- the byte of a point
+abbrev pub point : ℕ
+point = 46
+
+-- a point
 abbrev pub is_point : ℕ → Bool
-is_point c = c == 46
+is_point c = c == point
 
 -- what stands before the first point, or all where there is none
 abbrev pub whole_digits : List ℕ → List ℕ
@@ -59,15 +66,18 @@ whole_digits text = before_first is_point text
 abbrev pub part_digits : List ℕ → List ℕ
 part_digits text = after_first is_point text
 
--- digits with at most one point, and at least one digit
+-- digits with at most one point, and at least one digit: `28.45274`, `7`, `1.` and `.5`, but not `.`
 abbrev pub is_decimal : List ℕ → Bool
-is_decimal text = list_all is_ascii_digit (whole_digits text) && (list_all is_ascii_digit (part_digits text) && nat_lt 0 (length (whole_digits text) + length (part_digits text)))
+is_decimal text =
+    list_all is_ascii_digit (whole_digits text)
+    && (list_all is_ascii_digit (part_digits text)
+    && nat_lt 0 (length (whole_digits text) + length (part_digits text)))
 
 -- what digits after the point stand for; those after the 17th count for nothing
 abbrev pub fraction_of : List ℕ → ℕ
 fraction_of ds = nearest_65536th (length (take 17 ds)) (digits_value 10 (take 17 ds))
 
--- what a decimal stands for, in 65536ths
+-- what a decimal stands for, in 65536ths: 32768 for `.5`
 abbrev pub decimal_value : List ℕ → ℕ
 decimal_value text = 65536 * digits_value 10 (whole_digits text) + fraction_of (part_digits text)
 
@@ -79,6 +89,9 @@ IsWhole z = (pos 0 ≤ℤ z) × (z ≤ℤ pos 1073741823)
 abbrev pub IsFraction : ℤ → Type 0
 IsFraction z = (pos 0 ≤ℤ z) × (z ≤ℤ pos 65535)
 
--- whole part and 65536ths of a decimal, where the whole part is at most 1073741823
+-- whole part and 65536ths of a decimal, where the whole part is at most 1073741823: 28 and 29671 for `28.45274`
 abbrev pub decimal_parts : List ℕ → Option (ℤ × ℤ)
-decimal_parts text = if is_decimal text && nat_le (decimal_value text / 65536) 1073741823 then Some (pos (decimal_value text / 65536), pos (decimal_value text % 65536)) else None
+decimal_parts text =
+    if is_decimal text && nat_le (decimal_value text / 65536) 1073741823
+    then Some (pos (decimal_value text / 65536), pos (decimal_value text % 65536))
+    else None

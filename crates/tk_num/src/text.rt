@@ -26,7 +26,7 @@ fn rounded(rest: u32, delta: u32) -> u32
 
 /// Puts the digits of a fraction of 65536ths at the end, as few as read back as it.
 ///
-/// This is the loop of TeX's `print_scaled` (Knuth, TeX: The Program, module 103).
+/// This is the loop of TeX's `print_scaled` (Knuth, TeX: The Program, section 103).
 fn push_part(out: &mut ArrayString<24>, fraction: u32)
     requires room { array_string_len out.old ≤ 19 }
     requires fraction { fraction < 65536 }

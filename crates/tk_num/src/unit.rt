@@ -2,7 +2,7 @@
 
 ghost use Rattle.std.specs.Prelude.{◌≡◌, ◌+◌, ◌*◌, ◌<◌, ◌≤◌, pos, unsigned_abs};
 ghost use Rattle.tk_num.specs.Number.{IsWhole, IsFraction, product, scaled};
-ghost use Rattle.tk_num.specs.Unit.{points, length_in};
+ghost use Rattle.tk_num.specs.Unit.{converted, length_in};
 
 use crate::arithmetic::{cut, in_range};
 use crate::{NumFault, Scaled};
@@ -26,14 +26,14 @@ pub enum Unit {
 /// A length in a unit of `numerator / denominator` points, in 65536ths of a point, cut downward.
 ///
 /// The whole part is divided first and its remainder carried into the 65536ths, as in Knuth, TeX: The
-/// Program, module 458.
+/// Program, section 458.
 fn in_points(whole: u64, frac: u64, numerator: u64, denominator: u64) -> i64
     requires whole { whole ≤ 1073741823 }
     requires frac { frac < 65536 }
     requires numerator { numerator ≤ 14856 }
     requires some { 1 ≤ denominator }
     requires denominator { denominator ≤ 7200 }
-    ensures { result ≡ pos (points numerator denominator (65536 * whole + frac)) }
+    ensures { result ≡ pos (converted numerator denominator (65536 * whole + frac)) }
 {
     let product = whole * numerator;
     let parts = (numerator * frac + 65536 * (product % denominator)) / denominator;

@@ -13,16 +13,16 @@ use Rattle.tk_item.specs.declared.Item.{Item}
 use Rattle.tk_item.specs.declared.Item.TheVariants.{Path}
 use Rattle.tk_item.specs.declared.Frame.{Frame}
 use Rattle.tk_item.specs.declared.Drawing.{Drawing}
-use Rattle.tk_svg.specs.Scan.{◌>>=◌, Attribute, value_of, digits_of, after_digits, part_of, after_part, unsigned_from, unsigned_at, number_at, numbers_of, number_of, scaled_of, is_empty, behind_separator}
-use Rattle.tk_svg.specs.PathData.{Command, MoveTo, point, piece, pieces}
-use Rattle.tk_svg.specs.Paint.{given, paint_of, is_length, length_of, cap_of, join_of, miter_of, dashes_of, stroke_of}
+use Rattle.tk_svg.specs.Scan.{◌and_then◌, Attribute, value_of, digits_of, after_digits, digits_behind_point, after_part, unsigned_from, unsigned_at, number_at, numbers_of, lone_number, scaled_of, is_empty, behind_separator}
+use Rattle.tk_svg.specs.PathData.{PathCommand, MoveTo, scaled_point, command_piece, command_pieces}
+use Rattle.tk_svg.specs.Paint.{value_or_initial, paint_of, is_length, length_value, cap_of, join_of, miter_of, dashes_of, stroke_of}
 use Rattle.tk_svg.specs.Document.{IsPathElement, Content, ends, path, IsDocument}
 use Rattle.tk_svg.specs.Fitting.{BeginsWithMove, FitsStroke, FitsItem, FitsBox, Fits}
 use Rattle.tk_svg.proofs.Unique.{and_true}
 
 -- ---- steps that did not fail
 
-step_back : {A B : Type 0} (o : Option A) (f : A → Option B) (y : B) → (o >>= f) ≡ Some y → (x : A) × (o ≡ Some x) × (f x ≡ Some y)
+step_back : {A B : Type 0} (o : Option A) (f : A → Option B) (y : B) → (o and_then f) ≡ Some y → (x : A) × (o ≡ Some x) × (f x ≡ Some y)
 step_back None f y e = absurd cc
 step_back (Some x) f y e = (x, refl, e)
 
@@ -36,7 +36,7 @@ unsigned_fits : (bytes : List ℕ) (u : ℕ × List ℕ) → unsigned_at bytes �
 unfolding unsigned_at unsigned_from
 unsigned_fits bytes u e =
     let whole = digits_of bytes in
-    let part = part_of (after_digits bytes) in
+    let part = digits_behind_point (after_digits bytes) in
     let t = test_back (ltb 0 (length whole + length part) && leb (value_of whole part) 4294967295) (value_of whole part, after_part (after_digits bytes)) u e in
     let le : value_of whole part ≤ 4294967295 = leb-true _ _ (and_true _ _ t.0).1 in
     subst (λ (w : ℕ × List ℕ). w.0 ≤ 4294967295) t.1 le
@@ -45,7 +45,7 @@ abs-neg : (n : ℕ) → unsigned_abs (neg_ℤ (pos n)) ≡ n
 abs-neg zero = refl
 abs-neg (suc n) = refl
 
-signed_fits : (f : ℕ → ℤ) → ((n : ℕ) → unsigned_abs (f n) ≡ n) → (bytes : List ℕ) (x : ℤ × List ℕ) → (unsigned_at bytes >>= λ u. Some (f u.0, u.1)) ≡ Some x → FitsBox x.0
+signed_fits : (f : ℕ → ℤ) → ((n : ℕ) → unsigned_abs (f n) ≡ n) → (bytes : List ℕ) (x : ℤ × List ℕ) → (unsigned_at bytes and_then λ u. Some (f u.0, u.1)) ≡ Some x → FitsBox x.0
 signed_fits f same bytes x e =
     let s = step_back (unsigned_at bytes) (λ u. Some (f u.0, u.1)) x e in
     let le = unsigned_fits bytes s.0 s.1 in
@@ -58,7 +58,7 @@ unfolding number_at
 number_fits [] x e = absurd cc
 number_fits (c ∷ cs) x e = by_sign (eqb c 45) (eqb c 43) e
   where
-    by_sign : (minus plus : Bool) → cond minus (unsigned_at cs >>= λ u. Some (neg_ℤ (pos u.0), u.1)) (cond plus (unsigned_at cs >>= λ u. Some (pos u.0, u.1)) (unsigned_at (c ∷ cs) >>= λ u. Some (pos u.0, u.1))) ≡ Some x → FitsBox x.0
+    by_sign : (minus plus : Bool) → cond minus (unsigned_at cs and_then λ u. Some (neg_ℤ (pos u.0), u.1)) (cond plus (unsigned_at cs and_then λ u. Some (pos u.0, u.1)) (unsigned_at (c ∷ cs) and_then λ u. Some (pos u.0, u.1))) ≡ Some x → FitsBox x.0
     by_sign true plus f = signed_fits (λ n. neg_ℤ (pos n)) abs-neg cs x f
     by_sign false true f = signed_fits (λ n. pos n) (λ n. refl) cs x f
     by_sign false false f = signed_fits (λ n. pos n) (λ n. refl) (c ∷ cs) x f
@@ -67,34 +67,34 @@ numbers_fit : (n : ℕ) (value : List ℕ) (xs : List ℤ) → numbers_of n valu
 unfolding numbers_of
 numbers_fit zero value xs e = absurd cc
 numbers_fit (suc n) value xs e =
-    let s = step_back (number_at value) (λ x. cond (is_empty x.1) (Some (x.0 ∷ [])) (behind_separator x.1 >>= λ next. numbers_of n next >>= λ more. Some (x.0 ∷ more))) xs e in
+    let s = step_back (number_at value) (λ x. cond (is_empty x.1) (Some (x.0 ∷ [])) (behind_separator x.1 and_then λ next. numbers_of n next and_then λ more. Some (x.0 ∷ more))) xs e in
     by_end s.0 (number_fits value s.0 s.1) (λ (next : List ℕ) (more : List ℤ). numbers_fit n next more) (is_empty s.0.1) s.2
   where
-    by_end : (x : ℤ × List ℕ) → FitsBox x.0 → ((next : List ℕ) (more : List ℤ) → numbers_of n next ≡ Some more → AllByRecursion FitsBox more) → (b : Bool) → cond b (Some (x.0 ∷ [])) (behind_separator x.1 >>= λ next. numbers_of n next >>= λ more. Some (x.0 ∷ more)) ≡ Some xs → AllByRecursion FitsBox xs
+    by_end : (x : ℤ × List ℕ) → FitsBox x.0 → ((next : List ℕ) (more : List ℤ) → numbers_of n next ≡ Some more → AllByRecursion FitsBox more) → (b : Bool) → cond b (Some (x.0 ∷ [])) (behind_separator x.1 and_then λ next. numbers_of n next and_then λ more. Some (x.0 ∷ more)) ≡ Some xs → AllByRecursion FitsBox xs
     by_end x h fit true f = let is : x.0 ∷ [] ≡ xs = cc in subst (AllByRecursion FitsBox) is (h, tt)
     by_end x h fit false f =
-        let s = step_back (behind_separator x.1) (λ next. numbers_of n next >>= λ more. Some (x.0 ∷ more)) xs f in
+        let s = step_back (behind_separator x.1) (λ next. numbers_of n next and_then λ more. Some (x.0 ∷ more)) xs f in
         let t = step_back (numbers_of n s.0) (λ more. Some (x.0 ∷ more)) xs s.2 in
         let is : x.0 ∷ t.0 ≡ xs = cc (t.2) in
         subst (AllByRecursion FitsBox) is (h, fit s.0 t.0 t.1)
 
 -- ---- paths
 
-begins : (segs : List Seg) (args : List ℤ) (others : List Command) → pieces ((MoveTo, args) ∷ others) ≡ Some segs → BeginsWithMove segs
+begins : (segs : List Seg) (args : List ℤ) (others : List PathCommand) → command_pieces ((MoveTo, args) ∷ others) ≡ Some segs → BeginsWithMove segs
 begins segs [] others e = absurd cc
 begins segs (x ∷ []) others e = absurd cc
 begins segs (x ∷ (y ∷ [])) others e =
-    let s = step_back (piece (MoveTo, x ∷ y ∷ [])) (λ first. pieces others >>= λ more. Some (first ∷ more)) segs e in
-    let t = step_back (point x y) (λ p. Some (Move p)) s.0 s.1 in
-    let u = step_back (pieces others) (λ more. Some (s.0 ∷ more)) segs s.2 in
+    let s = step_back (command_piece (MoveTo, x ∷ y ∷ [])) (λ first. command_pieces others and_then λ more. Some (first ∷ more)) segs e in
+    let t = step_back (scaled_point x y) (λ p. Some (Move p)) s.0 s.1 in
+    let u = step_back (command_pieces others) (λ more. Some (s.0 ∷ more)) segs s.2 in
     let is : Move t.0 ∷ u.0 ≡ segs = cc (t.2, u.2) in
     subst BeginsWithMove is tt
 begins segs (x ∷ (y ∷ (z ∷ args))) others e = absurd cc
 
-length_sign : (value : List ℕ) (w : ℤ) → length_of value ≡ Some w → pos 0 ≤ℤ w
-unfolding length_of
+length_sign : (value : List ℕ) (w : ℤ) → length_value value ≡ Some w → pos 0 ≤ℤ w
+unfolding length_value
 length_sign value w e =
-    let s = step_back (number_of value) (λ x. cond (is_length x) (Some x) None) w e in
+    let s = step_back (lone_number value) (λ x. cond (is_length x) (Some x) None) w e in
     let t = test_back (is_length s.0) s.0 w s.2 in
     let sign : int_le (pos 0) s.0 ≡ true = (and_true (is_scaled s.0) (int_le (pos 0) s.0) t.0).1 in
     let here : pos 0 ≤ℤ s.0 = omega (arith, ints) in
@@ -116,13 +116,13 @@ pen_fits (Some rgb) pen stroke h e = subst FitsStroke e (h rgb)
 stroke_fits : (a : List Attribute) (stroke : Option Stroke) → stroke_of a ≡ Some stroke → FitsStroke stroke
 unfolding stroke_of
 stroke_fits a stroke e =
-    let s1 = step_back (paint_of (given a (codes "stroke") (codes "none"))) _ stroke e in
-    let s2 = step_back (length_of (given a (codes "stroke-width") (codes "1"))) _ stroke s1.2 in
-    let s3 = step_back (cap_of (given a (codes "stroke-linecap") (codes "butt"))) _ stroke s2.2 in
-    let s4 = step_back (join_of (given a (codes "stroke-linejoin") (codes "miter"))) _ stroke s3.2 in
-    let s5 = step_back (miter_of (given a (codes "stroke-miterlimit") (codes "4"))) _ stroke s4.2 in
-    let s6 = step_back (dashes_of (given a (codes "stroke-dasharray") (codes "none"))) _ stroke s5.2 in
-    let s7 = step_back (scaled_of (given a (codes "stroke-dashoffset") (codes "0"))) _ stroke s6.2 in
+    let s1 = step_back (paint_of (value_or_initial a (codes "stroke") (codes "none"))) _ stroke e in
+    let s2 = step_back (length_value (value_or_initial a (codes "stroke-width") (codes "1"))) _ stroke s1.2 in
+    let s3 = step_back (cap_of (value_or_initial a (codes "stroke-linecap") (codes "butt"))) _ stroke s2.2 in
+    let s4 = step_back (join_of (value_or_initial a (codes "stroke-linejoin") (codes "miter"))) _ stroke s3.2 in
+    let s5 = step_back (miter_of (value_or_initial a (codes "stroke-miterlimit") (codes "4"))) _ stroke s4.2 in
+    let s6 = step_back (dashes_of (value_or_initial a (codes "stroke-dasharray") (codes "none"))) _ stroke s5.2 in
+    let s7 = step_back (scaled_of (value_or_initial a (codes "stroke-dashoffset") (codes "0"))) _ stroke s6.2 in
     let pen : Rgb → Stroke = λ rgb. record { rgb = rgb; width = s2.0; cap = s3.0; join = s4.0; miter = s5.0; dash = s6.0; phase = s7.0 } in
     let is : option_map pen s1.0 ≡ stroke = cc (s7.2) in
     pen_fits s1.0 pen stroke (λ rgb. (length_sign _ s2.0 s2.1, miter_least _ s5.0 s5.1)) is

@@ -12,7 +12,7 @@ use Rattle.tk_num.specs.Number.{fraction_of, nearest_65536th}
 use Rattle.tk_num.specs.Text.{fixed_digits, fewest_digits, nearest_digits, part_text, text_of, IsBest}
 use Rattle.tk_num.proofs.Best.{is_best}
 use Rattle.tk_num.proofs.Fixed.{fixed_all, fraction-fixed, decimal_all, decimal_some, value-decimal}
-use Rattle.tk_svg.specs.Scan.{digits_of, after_digits, part_of, after_part, value_of, unsigned_from, unsigned_at, number_at}
+use Rattle.tk_svg.specs.Scan.{digits_of, after_digits, digits_behind_point, after_part, value_of, unsigned_from, unsigned_at, number_at}
 
 -- a digit is one
 pub digit_is : (c : ℕ) → digit_value c < 10 → is_ascii_digit c ≡ true
@@ -46,15 +46,15 @@ unsigned_from_is whole part rest v some is le =
     let u : leb (value_of whole part) 4294967295 ≡ true = rw is (le-leb _ _ le) in
     rw (t, u, is) refl
 
-unsigned_at_is : (bytes whole part rest : List ℕ) (v : ℕ) → digits_of bytes ≡ whole → part_of (after_digits bytes) ≡ part → after_part (after_digits bytes) ≡ rest → 0 < length whole → value_of whole part ≡ v → v ≤ 4294967295 → unsigned_at bytes ≡ Some (v, rest)
+unsigned_at_is : (bytes whole part rest : List ℕ) (v : ℕ) → digits_of bytes ≡ whole → digits_behind_point (after_digits bytes) ≡ part → after_part (after_digits bytes) ≡ rest → 0 < length whole → value_of whole part ≡ v → v ≤ 4294967295 → unsigned_at bytes ≡ Some (v, rest)
 unfolding unsigned_at
 unsigned_at_is bytes whole part rest v e f g some is le =
-    ap (λ (x : List ℕ). unsigned_from x (part_of (after_digits bytes)) (after_part (after_digits bytes))) e
+    ap (λ (x : List ℕ). unsigned_from x (digits_behind_point (after_digits bytes)) (after_part (after_digits bytes))) e
     ∙ ap (λ (x : List ℕ). unsigned_from whole x (after_part (after_digits bytes))) f
     ∙ ap (λ (x : List ℕ). unsigned_from whole part x) g
     ∙ unsigned_from_is whole part rest v some is le
 
-no_part : (rest : List ℕ) → EndsNumber rest → (part_of rest ≡ []) × (after_part rest ≡ rest)
+no_part : (rest : List ℕ) → EndsNumber rest → (digits_behind_point rest ≡ []) × (after_part rest ≡ rest)
 no_part [] e = (refl, refl)
 no_part (c ∷ cs) e = (rw e.1 refl, rw e.1 refl)
 
@@ -68,7 +68,7 @@ whole_at w rest le e =
     let d = digits_front (decimal w) rest (decimal_all w (omega arith)) (no_digits rest e) in
     let p = no_part rest e in
     let value : value_of (decimal w) [] ≡ 65536 * w = rw (value-decimal w (omega arith)) (add-zero (65536 * w)) in
-    unsigned_at_is (decimal w ++ rest) (decimal w) [] rest (65536 * w) d.0 (ap part_of d.1 ∙ p.0) (ap after_part d.1 ∙ p.1) (decimal_some w (omega arith)) value (omega arith)
+    unsigned_at_is (decimal w ++ rest) (decimal w) [] rest (65536 * w) d.0 (ap digits_behind_point d.1 ∙ p.0) (ap after_part d.1 ∙ p.1) (decimal_some w (omega arith)) value (omega arith)
 
 -- and so is one with digits behind a point
 part_at : (w n m : ℕ) (rest : List ℕ) → w ≤ 65535 → n ≤ 17 → m < 10 ^ n → 65536 * w + nearest_65536th n m ≤ 4294967295 → EndsNumber rest → unsigned_at (decimal w ++ 46 ∷ (fixed_digits n m ++ rest)) ≡ Some (65536 * w + nearest_65536th n m, rest)
@@ -77,7 +77,7 @@ part_at w n m rest le high lt most e =
     let part = digits_front (fixed_digits n m) rest (fixed_all n m) (no_digits rest e) in
     let value : value_of (decimal w) (fixed_digits n m) ≡ 65536 * w + nearest_65536th n m =
     ap (λ (k : ℕ). 65536 * k + fraction_of (fixed_digits n m)) (value-decimal w (omega arith)) ∙ ap (λ (k : ℕ). 65536 * w + k) (fraction-fixed n m high lt) in
-    unsigned_at_is (decimal w ++ 46 ∷ (fixed_digits n m ++ rest)) (decimal w) (fixed_digits n m) rest (65536 * w + nearest_65536th n m) whole.0 (ap part_of whole.1 ∙ part.0) (ap after_part whole.1 ∙ part.1) (decimal_some w (omega arith)) value most
+    unsigned_at_is (decimal w ++ 46 ∷ (fixed_digits n m ++ rest)) (decimal w) (fixed_digits n m) rest (65536 * w + nearest_65536th n m) whole.0 (ap digits_behind_point whole.1 ∙ part.0) (ap after_part whole.1 ∙ part.1) (decimal_some w (omega arith)) value most
 
 -- the text of a number without its sign
 abbrev pub unsigned_text : ℕ → List ℕ

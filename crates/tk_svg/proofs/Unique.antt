@@ -16,7 +16,7 @@ use Rattle.tk_svg.specs.Document.{IsPathElement, Content, IsSvg, IsDocument}
 use Rattle.tk_svg.specs.Document as doc
 use Rattle.tk_svg.specs.Paint.{fill_of, stroke_of}
 use Rattle.tk_svg.specs.Scan.{EndsTag, IsName, Attribute, Attributes, none, one, is_name_byte, is_value_byte, after_blanks, after_separator, after_comma, first_numbers_at, numbers_at, numbers_of, scaled_of}
-use Rattle.tk_svg.specs.PathData.{Letter, letter_of, arity, repeated, Command, Commands, ends, named, again, begins_number, pieces, IsPathData, LineTo, MoveTo}
+use Rattle.tk_svg.specs.PathData.{Letter, path_letter, arity, repeated, PathCommand, PathCommands, ends, named, again, begins_number, command_pieces, IsPathData, LineTo, MoveTo}
 
 pub some_same : {A : Type 0} (o : Option A) (x y : A) → o ≡ Some x → o ≡ Some y → x ≡ y
 some_same o x y e f = cc
@@ -61,15 +61,15 @@ split_same p c not_p (x ∷ xs) (y ∷ ys) r s a b e =
     (cells same more.0, more.1)
 
 -- a letter begins no number
-letter_no_number : (c : ℕ) (j : Letter) (cs : List ℕ) → letter_of c ≡ Some j → begins_number (after_comma (c ∷ cs)) ≡ false
+letter_no_number : (c : ℕ) (j : Letter) (cs : List ℕ) → path_letter c ≡ Some j → begins_number (after_comma (c ∷ cs)) ≡ false
 letter_no_number c j cs e = grind (arith, nat_tests)
 
 -- the command at the front is one, and so is what is left
-named_same : (j j' : Letter) (c c' : ℕ) (front front' rest rest' : List ℕ) (args args' : List ℤ) (all : List ℕ) → all ≡ c ∷ front → all ≡ c' ∷ front' → letter_of c ≡ Some j → letter_of c' ≡ Some j' → first_numbers_at (arity j) front ≡ Some (args, rest) → first_numbers_at (arity j') front' ≡ Some (args', rest') → (j ≡ j') × (args ≡ args') × (rest ≡ rest')
+named_same : (j j' : Letter) (c c' : ℕ) (front front' rest rest' : List ℕ) (args args' : List ℤ) (all : List ℕ) → all ≡ c ∷ front → all ≡ c' ∷ front' → path_letter c ≡ Some j → path_letter c' ≡ Some j' → first_numbers_at (arity j) front ≡ Some (args, rest) → first_numbers_at (arity j') front' ≡ Some (args', rest') → (j ≡ j') × (args ≡ args') × (rest ≡ rest')
 named_same j j' c c' front front' rest rest' args args' all f f' g g' h h' =
     let cs = head_same all c c' front front' f f' in
     let fs = tail_same all c c' front front' f f' in
-    let js : j ≡ j' = some_same (letter_of c) j j' g (ap letter_of cs ∙ g') in
+    let js : j ≡ j' = some_same (path_letter c) j j' g (ap path_letter cs ∙ g') in
     let out : first_numbers_at (arity j) front ≡ Some (args', rest') = ap (λ (i : Letter). first_numbers_at (arity i) front) js ∙ ap (λ (w : List ℕ). first_numbers_at (arity j') w) fs ∙ h' in
     let both = some_same _ (args, rest) (args', rest') h out in
     (js, first_same _ _ both, second_same _ _ both)
@@ -78,17 +78,17 @@ named_same j j' c c' front front' rest rest' args args' all f f' g g' h h' =
 end_no_number : (bytes : List ℕ) → after_blanks bytes ≡ [] → begins_number (after_separator bytes) ≡ true → ⊥
 end_no_number bytes e h = false≢true (sym (ap (λ w. begins_number (after_comma w)) e) ∙ h)
 
-named_no_number : (bytes : List ℕ) (c : ℕ) (j : Letter) (front : List ℕ) → after_blanks bytes ≡ c ∷ front → letter_of c ≡ Some j → begins_number (after_separator bytes) ≡ true → ⊥
+named_no_number : (bytes : List ℕ) (c : ℕ) (j : Letter) (front : List ℕ) → after_blanks bytes ≡ c ∷ front → path_letter c ≡ Some j → begins_number (after_separator bytes) ≡ true → ⊥
 named_no_number bytes c j front e l h = false≢true (sym (ap (λ w. begins_number (after_comma w)) e ∙ letter_no_number c j front l) ∙ h)
 
-pub commands_same : {k : Letter} {bytes : List ℕ} {a b : List Command} → Commands k bytes a → Commands k bytes b → a ≡ b
+pub commands_same : {k : Letter} {bytes : List ℕ} {a b : List PathCommand} → PathCommands k bytes a → PathCommands k bytes b → a ≡ b
 commands_same (ends e) (ends f) = refl
 commands_same (ends e) (named f g h i) = absurd cc
 commands_same {bytes = bytes} (ends e) (again f g h i) = absurd (end_no_number bytes e g)
 commands_same (named f g h i) (ends e) = absurd cc
 commands_same {bytes = bytes} (named {j = j} {c = c} {front = front} {rest = rest} {args = args} {more = more} f g h i) (named {j = j'} {c = c'} {front = front'} {rest = rest'} {args = args'} {more = more'} f' g' h' i') =
     let s = named_same j j' c c' front front' rest rest' args args' (after_blanks bytes) f f' g g' h h' in
-    let other : Commands (repeated j) rest more' = subst (λ (l : Letter). Commands (repeated l) rest more') (sym s.0) (subst (λ (w : List ℕ). Commands (repeated j') w more') (sym s.2) i') in
+    let other : PathCommands (repeated j) rest more' = subst (λ (l : Letter). PathCommands (repeated l) rest more') (sym s.0) (subst (λ (w : List ℕ). PathCommands (repeated j') w more') (sym s.2) i') in
     cells (pairs s.0 s.1) (commands_same i other)
 commands_same {bytes = bytes} (named {j = j} {c = c} {front = front} f g h i) (again f' g' h' i') = absurd (named_no_number bytes c j front f g g')
 commands_same {bytes = bytes} (again f g h i) (ends e) = absurd (end_no_number bytes e g)
@@ -96,16 +96,16 @@ commands_same {bytes = bytes} (again f g h i) (named {j = j} {c = c} {front = fr
 commands_same {k = k} {bytes = bytes} (again {rest = rest} {args = args} {more = more} f g h i) (again {rest = rest'} {args = args'} {more = more'} f' g' h' i') =
     let both = some_same (numbers_at (arity k) bytes) (args, rest) (args', rest') h h' in
     let r : rest' ≡ rest = sym (second_same _ _ both) in
-    cells (pairs refl (first_same _ _ both)) (commands_same i (subst (λ (w : List ℕ). Commands k w more') r i'))
+    cells (pairs refl (first_same _ _ both)) (commands_same i (subst (λ (w : List ℕ). PathCommands k w more') r i'))
 
 pub path_same : (bytes : List ℕ) (a b : List Seg) → IsPathData bytes a → IsPathData bytes b → a ≡ b
 path_same bytes a b p q =
     let fronts = tail_same (after_blanks bytes) 77 77 p.front q.front p.begins q.begins in
     let both = some_same (first_numbers_at 2 p.front) (p.args, p.rest) (q.args, q.rest) p.first (ap (λ (w : List ℕ). first_numbers_at 2 w) fronts ∙ q.first) in
     let rests : q.rest ≡ p.rest = sym (second_same _ _ both) in
-    let commands = commands_same p.commands (subst (λ (w : List ℕ). Commands LineTo w q.others) rests q.commands) in
+    let commands = commands_same p.commands (subst (λ (w : List ℕ). PathCommands LineTo w q.others) rests q.commands) in
     let whole = cells (pairs {x = MoveTo} refl (first_same _ _ both)) commands in
-    some_same (pieces ((MoveTo, p.args) ∷ p.others)) a b p.meaning (ap pieces whole ∙ q.meaning)
+    some_same (command_pieces ((MoveTo, p.args) ∷ p.others)) a b p.meaning (ap command_pieces whole ∙ q.meaning)
 
 -- ---- attributes
 

@@ -7,6 +7,7 @@ use Rattle.tk_item.specs.declared.Stroke.{Stroke}
 use Rattle.tk_item.specs.declared.Item.{Item}
 use Rattle.tk_item.specs.declared.Item.TheVariants.{Path, Label}
 use Rattle.tk_item.specs.declared.Drawing.{Drawing}
+use Rattle.tk_svg.specs.Characters.{tab, line_feed, carriage_return}
 use Rattle.tk_svg.specs.Scan.{is_xml_char}
 use Rattle.tk_svg.specs.Document.{IsFamily}
 
@@ -27,7 +28,7 @@ FitsStroke (Some stroke) = (pos 0 ≤ℤ stroke.width) × (pos 65536 ≤ℤ stro
 
 -- a character of a label: one that XML allows, but tab, line feed and carriage return
 abbrev pub is_label_char : ℕ → Bool
-is_label_char c = is_xml_char c && not (c == 9 || (c == 10 || c == 13))
+is_label_char c = is_xml_char c && not (c == tab || (c == line_feed || c == carriage_return))
 
 -- a label's text is not empty
 pub record FitsText (text : List ℕ) : Type 0 where

@@ -1,3 +1,4 @@
+pub mod Characters
 pub mod Document
 pub mod Fitting
 pub mod Paint

@@ -16,14 +16,14 @@ use Rattle.tk_item.specs.declared.Frame.{Frame}
 use Rattle.tk_item.specs.declared.Item.{Item}
 use Rattle.tk_item.specs.declared.Item.TheVariants.{Path, Label}
 use Rattle.tk_item.specs.declared.Drawing.{Drawing}
-use Rattle.tk_svg.specs.Scan.{is_xml_char, is_blank, is_name_byte, is_value_byte, after_blanks, Attribute, attribute, Attributes, none, one, EndsTag, IsName, are_among, are_distinct}
+use Rattle.tk_svg.specs.Scan.{is_xml_char, is_xml_blank, is_name_byte, is_value_byte, after_blanks, Attribute, attribute, Attributes, none, one, EndsTag, IsName, are_among, are_distinct}
 use Rattle.tk_svg.specs.Paint.{paint_names}
-use Rattle.tk_svg.specs.Document.{IsPathElement, Content, IsSvg, IsDocument, IsFamily, is_family_char, size_of, points_of, declaration}
+use Rattle.tk_svg.specs.Document.{IsPathElement, Content, IsSvg, IsDocument, IsFamily, is_family_char, size_of, points_value, declaration}
 use Rattle.tk_svg.specs.Document as doc
 use Rattle.tk_svg.specs.Fitting.{Fits, FitsItem, IsPath, FitsBox}
 use Rattle.tk_svg.proofs.Numbers.{number_back}
 use Rattle.tk_svg.proofs.Unique.{and_true}
-use Rattle.tk_svgwrite.specs.Plain.{attribute_text, attributes_text, Setting, differing, data_text, fill_settings, stroke_settings, path_attributes, item_text, width_of, height_of, points_text, box_text, svg_attributes, svg_text, document_text}
+use Rattle.tk_svgwrite.specs.Plain.{attribute_text, attributes_text, Setting, differing, data_text, fill_settings, stroke_settings, path_attributes, item_text, frame_width, frame_height, points_text, box_text, svg_attributes, svg_text, document_text}
 use Rattle.tk_svgwrite.specs.Ranges.{FillInRange, StrokeInRange, ItemInRange}
 use Rattle.tk_svgwrite.proofs.Numbers.{is_plain, all_both, text_plain, numbers_plain, list_back}
 use Rattle.tk_svgwrite.proofs.PathData.{unsigned_abs-neg, neg-neg, scaled_fits, data_means, data_plain}
@@ -41,7 +41,7 @@ weaker p q f (c ∷ cs) h =
 plain_is_value : (c : ℕ) → is_plain c ≡ true → is_value_byte c ≡ true
 plain_is_value c h = grind (arith, nat_tests)
 
-name_no_blank : (c : ℕ) → is_name_byte c ≡ true → is_blank c ≡ false
+name_no_blank : (c : ℕ) → is_name_byte c ≡ true → is_xml_blank c ≡ false
 name_no_blank c h = grind (arith, nat_tests)
 
 name_starts : (name rest : List ℕ) → IsName name → after_blanks (name ++ rest) ≡ name ++ rest
@@ -189,13 +189,13 @@ size_fits w le =
 points_plain : (w : ℤ) → FitsBox w → list_all is_plain (points_text w) ≡ true
 points_plain w le = all_both is_plain (text_of (size_of w)) (codes "pt") (text_plain (size_of w) (size_fits w le)) refl
 
-points_back : (w : ℤ) → FitsBox w → points_of (points_text w) ≡ Some (size_of w)
+points_back : (w : ℤ) → FitsBox w → points_value (points_text w) ≡ Some (size_of w)
 points_back w le = rw (number_back (size_of w) (codes "pt") (size_fits w le) (refl, refl)) refl
 
 family_plain : (c : ℕ) → is_family_char c ≡ true → is_plain c ≡ true
 family_plain c h = grind (arith, nat_tests)
 
-box_fits : (d : Drawing) → Fits d → AllByRecursion FitsBox (d.frame.left ∷ neg_ℤ d.frame.top ∷ width_of d.frame ∷ height_of d.frame ∷ [])
+box_fits : (d : Drawing) → Fits d → AllByRecursion FitsBox (d.frame.left ∷ neg_ℤ d.frame.top ∷ frame_width d.frame ∷ frame_height d.frame ∷ [])
 box_fits d f = (f.left, (omega (arith, f.top, unsigned_abs-neg d.frame.top), (f.width, (f.height, tt))))
 
 svg_written : (d : Drawing) → Fits d → IsScaled d.size → AllByRecursion IsWritten (svg_attributes d)
@@ -204,11 +204,11 @@ svg_written d f s = (
   (
     written _ _ (lit< tt) refl refl,
     (
-      written _ _ (lit< tt) refl (points_plain (width_of d.frame) f.width),
+      written _ _ (lit< tt) refl (points_plain (frame_width d.frame) f.width),
       (
-        written _ _ (lit< tt) refl (points_plain (height_of d.frame) f.height),
+        written _ _ (lit< tt) refl (points_plain (frame_height d.frame) f.height),
         (
-          written _ _ (lit< tt) refl (numbers_plain (d.frame.left ∷ neg_ℤ d.frame.top ∷ width_of d.frame ∷ height_of d.frame ∷ []) (box_fits d f)),
+          written _ _ (lit< tt) refl (numbers_plain (d.frame.left ∷ neg_ℤ d.frame.top ∷ frame_width d.frame ∷ frame_height d.frame ∷ []) (box_fits d f)),
           (
             written _ _ (lit< tt) refl (weaker is_family_char is_plain family_plain d.family f.family.each),
             (written _ _ (lit< tt) refl (text_plain d.size (scaled_fits d.size s)), tt),
@@ -219,10 +219,10 @@ svg_written d f s = (
   ),
 )
 
-frame_back : (frame : Frame) → frame ≡ record { left = frame.left; bottom = neg_ℤ (neg_ℤ frame.top +ℤ height_of frame); right = frame.left +ℤ width_of frame; top = neg_ℤ (neg_ℤ frame.top) }
+frame_back : (frame : Frame) → frame ≡ record { left = frame.left; bottom = neg_ℤ (neg_ℤ frame.top +ℤ frame_height frame); right = frame.left +ℤ frame_width frame; top = neg_ℤ (neg_ℤ frame.top) }
 frame_back frame =
-    let bottom : frame.bottom ≡ neg_ℤ (neg_ℤ frame.top +ℤ height_of frame) = omega (arith, ints) in
-    let right : frame.right ≡ frame.left +ℤ width_of frame = omega (arith, ints) in
+    let bottom : frame.bottom ≡ neg_ℤ (neg_ℤ frame.top +ℤ frame_height frame) = omega (arith, ints) in
+    let right : frame.right ≡ frame.left +ℤ frame_width frame = omega (arith, ints) in
     let top = sym (neg-neg frame.top) in
     λ k. record { left = frame.left; bottom = bottom k; right = right k; top = top k }
 
@@ -230,25 +230,25 @@ svg_is : (d : Drawing) → Fits d → IsScaled d.size → IsSvg (svg_attributes 
 svg_is d f s = record {
   x = d.frame.left;
   y = neg_ℤ d.frame.top;
-  w = width_of d.frame;
-  h = height_of d.frame;
+  w = frame_width d.frame;
+  h = frame_height d.frame;
   box_text = box_text d.frame;
-  width_text = points_text (width_of d.frame);
-  height_text = points_text (height_of d.frame);
+  width_text = points_text (frame_width d.frame);
+  height_text = points_text (frame_height d.frame);
   size_text = text_of d.size;
   known = refl;
   distinct = refl;
   namespace = refl;
   version = refl;
   has_box = refl;
-  box_is = list_back 4 d.frame.left (neg_ℤ d.frame.top ∷ width_of d.frame ∷ height_of d.frame ∷ []) (lit< tt) (box_fits d f);
+  box_is = list_back 4 d.frame.left (neg_ℤ d.frame.top ∷ frame_width d.frame ∷ frame_height d.frame ∷ []) (lit< tt) (box_fits d f);
   w_sign = omega (arith, ints, f.sides);
   h_sign = omega (arith, ints, f.heights);
   frame_is = frame_back d.frame;
   has_width = refl;
-  width_is = points_back (width_of d.frame) f.width;
+  width_is = points_back (frame_width d.frame) f.width;
   has_height = refl;
-  height_is = points_back (height_of d.frame) f.height;
+  height_is = points_back (frame_height d.frame) f.height;
   has_family = refl;
   family_is = f.family;
   has_size = refl;

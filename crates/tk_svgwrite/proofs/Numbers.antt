@@ -9,7 +9,7 @@ use Rattle.std.proofs.lemmas.Fmt.{decimal_is_IsNumeral}
 use Rattle.std.proofs.lemmas.List.{append-nil}
 use Rattle.std.proofs.lemmas.List.Folds.{list_all-append}
 use Rattle.tk_num.specs.Text.{text_of, part_text, fewest_digits, nearest_digits}
-use Rattle.tk_svg.specs.Scan.{is_blank, is_value_byte, after_blanks, after_separator, after_comma, number_at, numbers_at, first_numbers_at, number_of, numbers_of}
+use Rattle.tk_svg.specs.Scan.{is_xml_blank, is_value_byte, after_blanks, after_separator, after_comma, number_at, numbers_at, first_numbers_at, lone_number, numbers_of}
 use Rattle.tk_svg.specs.Fitting.{FitsBox}
 use Rattle.tk_svg.proofs.Numbers.{digit_is, EndsNumber, number_back}
 use Rattle.tk_num.proofs.Fixed.{fixed_all}
@@ -50,7 +50,7 @@ numbers_plain (x ∷ (y ∷ ys)) h = all_both is_plain (text_of x ++ codes " ") 
 
 -- ---- reading back
 
-digit_starts : (c : ℕ) → is_ascii_digit c ≡ true → (is_blank c ≡ false) × (eqb c 44 ≡ false)
+digit_starts : (c : ℕ) → is_ascii_digit c ≡ true → (is_xml_blank c ≡ false) × (eqb c 44 ≡ false)
 digit_starts c d = (grind (arith, nat_tests), grind (arith, nat_tests))
 
 digits_start : (ds rest : List ℕ) → AllDigits 10 ds → 0 < length ds → (after_blanks (ds ++ rest) ≡ ds ++ rest) × (after_comma (ds ++ rest) ≡ ds ++ rest)
@@ -98,7 +98,7 @@ numbers_back x xs rest h e =
     rw (here, tail_back xs rest h.1 e) refl
 
 -- a value that is one number
-pub number_of_back : (z : ℤ) → FitsBox z → number_of (text_of z) ≡ Some z
+pub number_of_back : (z : ℤ) → FitsBox z → lone_number (text_of z) ≡ Some z
 number_of_back z le = rw (ap number_at (sym (append-nil (text_of z))) ∙ number_back z [] le tt) refl
 
 -- a value that is several

@@ -19,7 +19,7 @@ use Rattle.tk_item.specs.declared.Join.TheVariants as join
 use Rattle.tk_item.specs.declared.Fill.{Fill}
 use Rattle.tk_item.specs.declared.Stroke.{Stroke}
 use Rattle.tk_svg.specs.Scan.{Attribute, number_at, unsigned_at, unsigned_from, numbers_of, scaled_of}
-use Rattle.tk_svg.specs.Paint.{given, hex_digit, hex_byte, rgb_of, paint_of, rule_of, cap_of, join_of, is_length, length_of, miter_of, dashes_of, fill_of, stroke_of}
+use Rattle.tk_svg.specs.Paint.{value_or_initial, hex_digit, hex_byte, rgb_of, paint_of, rule_of, cap_of, join_of, is_length, length_value, miter_of, dashes_of, fill_of, stroke_of}
 use Rattle.tk_svg.specs.Fitting.{FitsBox, FitsStroke}
 use Rattle.tk_svg.proofs.Unique.{and_true}
 use Rattle.tk_svgwrite.specs.Plain.{numbers_text, hex_glyph, hex_text, rgb_text, rule_text, cap_text, join_text, dash_text, fill_settings, stroke_settings, differing}
@@ -102,8 +102,8 @@ is_length_true z h e =
     let s : is_scaled z ≡ true = le-leb _ _ h in
     rw (s, e) refl
 
-length_back : (z : ℤ) → IsScaled z → int_le (pos 0) z ≡ true → length_of (text_of z) ≡ Some z
-unfolding length_of
+length_back : (z : ℤ) → IsScaled z → int_le (pos 0) z ≡ true → length_value (text_of z) ≡ Some z
+unfolding length_value
 length_back z h e = rw (number_of_back z (scaled_fits z h), is_length_true z h e) refl
 
 miter_back : (z : ℤ) → IsScaled z → int_le (pos 65536) z ≡ true → miter_of (text_of z) ≡ Some z
@@ -149,7 +149,7 @@ dash_plain (x ∷ xs) h = numbers_plain (x ∷ xs) (all_fit (x ∷ xs) h)
 
 -- ---- a fill
 
-fill_from : (a : List Attribute) (paint rule : List ℕ) (p : Option Rgb) (r : Rule) → given a (codes "fill") (codes "#000000") ≡ paint → given a (codes "fill-rule") (codes "nonzero") ≡ rule → paint_of paint ≡ Some p → rule_of rule ≡ Some r → fill_of a ≡ Some (option_map (λ rgb. record { rgb = rgb; rule = r }) p)
+fill_from : (a : List Attribute) (paint rule : List ℕ) (p : Option Rgb) (r : Rule) → value_or_initial a (codes "fill") (codes "#000000") ≡ paint → value_or_initial a (codes "fill-rule") (codes "nonzero") ≡ rule → paint_of paint ≡ Some p → rule_of rule ≡ Some r → fill_of a ≡ Some (option_map (λ rgb. record { rgb = rgb; rule = r }) p)
 unfolding fill_of
 fill_from a paint rule p r e f g h = rw (e, f, g, h) refl
 
@@ -167,15 +167,15 @@ fill_means data_text (Some f) (Some s) h = fill_from _ (rgb_text f.rgb) (rule_te
 
 -- the values of the attributes of a stroke
 record StrokeTexts (a : List Attribute) (paint width cap join miter dash phase : List ℕ) : Type 0 where
-  paint_given : given a (codes "stroke") (codes "none") ≡ paint
-  width_given : given a (codes "stroke-width") (codes "1") ≡ width
-  cap_given : given a (codes "stroke-linecap") (codes "butt") ≡ cap
-  join_given : given a (codes "stroke-linejoin") (codes "miter") ≡ join
-  miter_given : given a (codes "stroke-miterlimit") (codes "4") ≡ miter
-  dash_given : given a (codes "stroke-dasharray") (codes "none") ≡ dash
-  phase_given : given a (codes "stroke-dashoffset") (codes "0") ≡ phase
+  paint_given : value_or_initial a (codes "stroke") (codes "none") ≡ paint
+  width_given : value_or_initial a (codes "stroke-width") (codes "1") ≡ width
+  cap_given : value_or_initial a (codes "stroke-linecap") (codes "butt") ≡ cap
+  join_given : value_or_initial a (codes "stroke-linejoin") (codes "miter") ≡ join
+  miter_given : value_or_initial a (codes "stroke-miterlimit") (codes "4") ≡ miter
+  dash_given : value_or_initial a (codes "stroke-dasharray") (codes "none") ≡ dash
+  phase_given : value_or_initial a (codes "stroke-dashoffset") (codes "0") ≡ phase
 
-stroke_from : {a : List Attribute} {paint width cap join miter dash phase : List ℕ} (p : Option Rgb) (w : ℤ) (c : Cap) (j : Join) (m : ℤ) (ds : List ℤ) (f : ℤ) → StrokeTexts a paint width cap join miter dash phase → paint_of paint ≡ Some p → length_of width ≡ Some w → cap_of cap ≡ Some c → join_of join ≡ Some j → miter_of miter ≡ Some m → dashes_of dash ≡ Some ds → scaled_of phase ≡ Some f → stroke_of a ≡ Some (option_map (λ rgb. record { rgb = rgb; width = w; cap = c; join = j; miter = m; dash = ds; phase = f }) p)
+stroke_from : {a : List Attribute} {paint width cap join miter dash phase : List ℕ} (p : Option Rgb) (w : ℤ) (c : Cap) (j : Join) (m : ℤ) (ds : List ℤ) (f : ℤ) → StrokeTexts a paint width cap join miter dash phase → paint_of paint ≡ Some p → length_value width ≡ Some w → cap_of cap ≡ Some c → join_of join ≡ Some j → miter_of miter ≡ Some m → dashes_of dash ≡ Some ds → scaled_of phase ≡ Some f → stroke_of a ≡ Some (option_map (λ rgb. record { rgb = rgb; width = w; cap = c; join = j; miter = m; dash = ds; phase = f }) p)
 unfolding stroke_of
 stroke_from p w c j m ds f t e1 e2 e3 e4 e5 e6 e7 =
     rw (t.paint_given, e1, t.width_given, e2, t.cap_given, e3, t.join_given, e4, t.miter_given, e5, t.dash_given, e6, t.phase_given, e7) refl
@@ -220,8 +220,8 @@ no_texts data_text (Some f) = record {
   phase_given = given_back (codes "stroke-dashoffset") (codes "0") (fill_settings (Some f)) refl;
 }
 
-initial_width : length_of (codes "1") ≡ Some (pos 65536)
-unfolding length_of number_at unsigned_at unsigned_from
+initial_width : length_value (codes "1") ≡ Some (pos 65536)
+unfolding length_value number_at unsigned_at unsigned_from
 initial_width = refl
 
 initial_miter : miter_of (codes "4") ≡ Some (pos 262144)

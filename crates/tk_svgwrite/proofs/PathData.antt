@@ -8,7 +8,7 @@ use Rattle.tk_num.specs.Number.{IsScaled, is_scaled}
 use Rattle.tk_item.specs.declared.Point.{Point}
 use Rattle.tk_item.specs.declared.Seg.{Seg}
 use Rattle.tk_item.specs.declared.Seg.TheVariants.{Move, Line, Curve, Close}
-use Rattle.tk_svg.specs.PathData.{Letter, Command, Commands, ends, named, LineTo, MoveTo, CurveTo, ClosePath, piece, pieces, point, IsPathData}
+use Rattle.tk_svg.specs.PathData.{Letter, PathCommand, PathCommands, ends, named, LineTo, MoveTo, CurveTo, ClosePath, command_piece, command_pieces, scaled_point, IsPathData}
 use Rattle.tk_svg.specs.Fitting.{FitsBox, BeginsWithMove}
 use Rattle.tk_svg.proofs.Numbers.{EndsNumber}
 use Rattle.tk_svgwrite.specs.Plain.{numbers_text, numbers_of_point, piece_text, data_text}
@@ -41,13 +41,13 @@ three_fit p q r h i j = (scaled_fits p.x h.x, (neg_fits p.y h.y, (scaled_fits q.
 -- ---- commands
 
 -- the command of a piece
-abbrev command_of : Seg → Command
+abbrev command_of : Seg → PathCommand
 command_of (Move p) = (MoveTo, numbers_of_point p)
 command_of (Line p) = (LineTo, numbers_of_point p)
 command_of (Curve p q r) = (CurveTo, numbers_of_point p ++ numbers_of_point q ++ numbers_of_point r)
 command_of Close = (ClosePath, [])
 
-abbrev commands_of : List Seg → List Command
+abbrev commands_of : List Seg → List PathCommand
 commands_of [] = []
 commands_of (s ∷ segs) = command_of s ∷ commands_of segs
 
@@ -58,7 +58,7 @@ data_ends (Line p ∷ segs) = (refl, refl)
 data_ends (Curve p q r ∷ segs) = (refl, refl)
 data_ends (Close ∷ segs) = (refl, refl)
 
-data_commands : (k : Letter) (segs : List Seg) → AllByRecursion PieceInRange segs → Commands k (data_text segs) (commands_of segs)
+data_commands : (k : Letter) (segs : List Seg) → AllByRecursion PieceInRange segs → PathCommands k (data_text segs) (commands_of segs)
 data_commands k [] h = ends refl
 data_commands k (Move p ∷ segs) h = named refl refl (numbers_back p.x (neg_ℤ p.y ∷ []) (data_text segs) (one_fits p h.0) (data_ends segs)) (data_commands LineTo segs h.1)
 data_commands k (Line p ∷ segs) h = named refl refl (numbers_back p.x (neg_ℤ p.y ∷ []) (data_text segs) (one_fits p h.0) (data_ends segs)) (data_commands LineTo segs h.1)
@@ -67,19 +67,19 @@ data_commands k (Close ∷ segs) h = named refl refl refl (data_commands ClosePa
 
 -- ---- what the commands stand for
 
-point_back : (p : Point) → PointInRange p → point p.x (neg_ℤ p.y) ≡ Some p
+point_back : (p : Point) → PointInRange p → scaled_point p.x (neg_ℤ p.y) ≡ Some p
 point_back p h =
     let t : is_scaled p.x ≡ true = le-leb _ _ h.x in
     let u : is_scaled (neg_ℤ p.y) ≡ true = le-leb _ _ (omega (arith, h.y, unsigned_abs-neg p.y)) in
     rw (t, u) (ap (λ y. Some (record { x = p.x; y = y })) (neg-neg p.y))
 
-piece_back : (s : Seg) → PieceInRange s → piece (command_of s) ≡ Some s
+piece_back : (s : Seg) → PieceInRange s → command_piece (command_of s) ≡ Some s
 piece_back (Move p) h = rw (point_back p h) refl
 piece_back (Line p) h = rw (point_back p h) refl
 piece_back (Curve p q r) h = rw (point_back p h.0, point_back q h.1, point_back r h.2) refl
 piece_back Close h = refl
 
-pieces_back : (segs : List Seg) → AllByRecursion PieceInRange segs → pieces (commands_of segs) ≡ Some segs
+pieces_back : (segs : List Seg) → AllByRecursion PieceInRange segs → command_pieces (commands_of segs) ≡ Some segs
 pieces_back [] h = refl
 pieces_back (s ∷ segs) h = rw (piece_back s h.0, pieces_back segs h.1) refl
 

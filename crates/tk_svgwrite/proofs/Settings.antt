@@ -5,7 +5,7 @@ use Rattle.std.specs.List.{list_all, list_any, AllByRecursion}
 use Rattle.std.proofs.lemmas.Bool.{false≢true}
 use Rattle.std.proofs.lemmas.Slice.Eq.{bytes_eq-Decides}
 use Rattle.tk_svg.specs.Scan.{Attribute, attribute, are_distinct, are_among, IsName}
-use Rattle.tk_svg.specs.Paint.{given}
+use Rattle.tk_svg.specs.Paint.{value_or_initial}
 use Rattle.tk_svg.proofs.Unique.{and_true}
 use Rattle.tk_svgwrite.specs.Plain.{Setting, differing}
 use Rattle.tk_svgwrite.proofs.Numbers.{is_plain}
@@ -53,20 +53,20 @@ not_true : (b : Bool) → not b ≡ true → b ≡ false
 not_true true e = absurd (false≢true e)
 not_true false e = refl
 
-here : (name initial : List ℕ) (s : Setting) (others : List Attribute) (same : Bool) → bytes_eq s.value s.initial ≡ same → name ≡ s.name → initial ≡ s.initial → attribute name others ≡ None → given (cond same others ((s.name, s.value) ∷ others)) name initial ≡ s.value
+here : (name initial : List ℕ) (s : Setting) (others : List Attribute) (same : Bool) → bytes_eq s.value s.initial ≡ same → name ≡ s.name → initial ≡ s.initial → attribute name others ≡ None → value_or_initial (cond same others ((s.name, s.value) ∷ others)) name initial ≡ s.value
 here name initial s others true t n i e = rw e (i ∙ sym ((bytes_eq-Decides s.value s.initial).0 t))
 here name initial s others false t n i e = let found : bytes_eq name s.name ≡ true = (bytes_eq-Decides name s.name).1 n in rw found refl
 
-elsewhere : (name initial : List ℕ) (s : Setting) (others : List Attribute) (same : Bool) → bytes_eq name s.name ≡ false → given (cond same others ((s.name, s.value) ∷ others)) name initial ≡ given others name initial
+elsewhere : (name initial : List ℕ) (s : Setting) (others : List Attribute) (same : Bool) → bytes_eq name s.name ≡ false → value_or_initial (cond same others ((s.name, s.value) ∷ others)) name initial ≡ value_or_initial others name initial
 elsewhere name initial s others true f = refl
 elsewhere name initial s others false f = rw f refl
 
-pub given_back : (name initial : List ℕ) (settings : List Setting) → is_set name initial settings ≡ true → given (differing settings) name initial ≡ value_in name initial settings
+pub given_back : (name initial : List ℕ) (settings : List Setting) → is_set name initial settings ≡ true → value_or_initial (differing settings) name initial ≡ value_in name initial settings
 unfolding differing
 given_back name initial [] h = refl
 given_back name initial (s ∷ settings) h = by_name (bytes_eq name s.name) refl h (given_back name initial settings)
   where
-    by_name : (b : Bool) → bytes_eq name s.name ≡ b → cond b (bytes_eq initial s.initial && not (has_name name settings)) (is_set name initial settings) ≡ true → (is_set name initial settings ≡ true → given (differing settings) name initial ≡ value_in name initial settings) → given (differing (s ∷ settings)) name initial ≡ cond b s.value (value_in name initial settings)
+    by_name : (b : Bool) → bytes_eq name s.name ≡ b → cond b (bytes_eq initial s.initial && not (has_name name settings)) (is_set name initial settings) ≡ true → (is_set name initial settings ≡ true → value_or_initial (differing settings) name initial ≡ value_in name initial settings) → value_or_initial (differing (s ∷ settings)) name initial ≡ cond b s.value (value_in name initial settings)
     by_name true e g more =
         let both = and_true (bytes_eq initial s.initial) (not (has_name name settings)) g in
         here name initial s (differing settings) (bytes_eq s.value s.initial) refl ((bytes_eq-Decides name s.name).0 e) ((bytes_eq-Decides initial s.initial).0 both.0) (absent name settings (not_true _ both.1))

@@ -16,7 +16,7 @@ use Rattle.tk_item.specs.declared.Item.{Item}
 use Rattle.tk_item.specs.declared.Item.TheVariants.{Path}
 use Rattle.tk_item.specs.declared.Drawing.{Drawing}
 use Rattle.tk_svg.specs.Document.{declaration}
-use Rattle.tk_svgwrite.specs.Plain.{attribute_text, attributes_text, Setting, setting, differing, numbers_text, rgb_text, rule_text, cap_text, join_text, dash_text, data_text, fill_settings, stroke_settings, item_text, width_of, height_of, points_text, box_text, svg_attributes, svg_text, document_text}
+use Rattle.tk_svgwrite.specs.Plain.{attribute_text, attributes_text, Setting, setting, differing, numbers_text, rgb_text, rule_text, cap_text, join_text, dash_text, data_text, fill_settings, stroke_settings, item_text, frame_width, frame_height, points_text, box_text, svg_attributes, svg_text, document_text}
 use Rattle.tk_svgwrite.proofs.Paint.{all_fit, dash_no_none}
 
 -- a number behind a space
@@ -137,13 +137,13 @@ seven_settings before o1 o2 o3 o4 o5 o6 a b c d e f g h1 h2 h3 h4 h5 h6 =
     setting_step (a ∷ b ∷ c ∷ d ∷ e ∷ f ∷ []) g before o6 _ h6 refl
 
 -- seven attributes, one behind another
-pub svg_steps : (before o1 o2 o3 o4 o5 o6 o7 : List ℕ) (d : Drawing) → o1 ≡ before ++ attribute_text (codes "xmlns", codes "http://www.w3.org/2000/svg") → o2 ≡ o1 ++ attribute_text (codes "version", codes "1.1") → o3 ≡ o2 ++ attribute_text (codes "width", points_text (width_of d.frame)) → o4 ≡ o3 ++ attribute_text (codes "height", points_text (height_of d.frame)) →
+pub svg_steps : (before o1 o2 o3 o4 o5 o6 o7 : List ℕ) (d : Drawing) → o1 ≡ before ++ attribute_text (codes "xmlns", codes "http://www.w3.org/2000/svg") → o2 ≡ o1 ++ attribute_text (codes "version", codes "1.1") → o3 ≡ o2 ++ attribute_text (codes "width", points_text (frame_width d.frame)) → o4 ≡ o3 ++ attribute_text (codes "height", points_text (frame_height d.frame)) →
     o5 ≡ o4 ++ attribute_text (codes "viewBox", box_text d.frame) → o6 ≡ o5 ++ attribute_text (codes "font-family", d.family) → o7 ≡ o6 ++ attribute_text (codes "font-size", text_of d.size) → o7 ≡ before ++ attributes_text (svg_attributes d)
 svg_steps before o1 o2 o3 o4 o5 o6 o7 d h1 h2 h3 h4 h5 h6 h7 =
     let a : Attribute = (codes "xmlns", codes "http://www.w3.org/2000/svg") in
     let b : Attribute = (codes "version", codes "1.1") in
-    let c : Attribute = (codes "width", points_text (width_of d.frame)) in
-    let e : Attribute = (codes "height", points_text (height_of d.frame)) in
+    let c : Attribute = (codes "width", points_text (frame_width d.frame)) in
+    let e : Attribute = (codes "height", points_text (frame_height d.frame)) in
     let f : Attribute = (codes "viewBox", box_text d.frame) in
     let g : Attribute = (codes "font-family", d.family) in
     let h1 = attribute_step [] a before before o1 (sym (append-nil before)) h1 in

@@ -43,7 +43,10 @@ setting name initial value = record { name = name; initial = initial; value = va
 -- the attributes whose value is not the initial one
 unfoldable pub differing : List Setting → List Attribute
 differing [] = []
-differing (s ∷ settings) = if bytes_eq s.value s.initial then differing settings else (s.name, s.value) ∷ differing settings
+differing (s ∷ settings) =
+    if bytes_eq s.value s.initial
+    then differing settings
+    else (s.name, s.value) ∷ differing settings
 
 -- ---- values
 
@@ -57,7 +60,7 @@ numbers_text (x ∷ (y ∷ numbers)) = text_of x ++ codes " " ++ numbers_text (y
 abbrev pub numbers_of_point : Point → List ℤ
 numbers_of_point p = p.x ∷ neg_ℤ p.y ∷ []
 
--- a piece is a letter and directly behind it the numbers of its points
+-- a piece is a letter and directly behind it the numbers of its points: `L28.45274 0`
 abbrev pub piece_text : Seg → List ℕ
 piece_text (Move p) = codes "M" ++ numbers_text (numbers_of_point p)
 piece_text (Line p) = codes "L" ++ numbers_text (numbers_of_point p)
@@ -80,7 +83,7 @@ hex_text byte = hex_glyph (byte / 16) ∷ hex_glyph (byte % 16) ∷ []
 abbrev pub rgb_text : Rgb → List ℕ
 rgb_text rgb = codes "#" ++ hex_text rgb.r ++ hex_text rgb.g ++ hex_text rgb.b
 
--- the words
+-- which points are inside
 abbrev pub rule_text : Rule → List ℕ
 rule_text NonZero = codes "nonzero"
 rule_text EvenOdd = codes "evenodd"
@@ -107,7 +110,10 @@ dash_text (x ∷ xs) = numbers_text (x ∷ xs)
 -- the rule stands only on a path that is filled
 abbrev pub fill_settings : Option Fill → List Setting
 fill_settings None = setting (codes "fill") (codes "#000000") (codes "none") ∷ []
-fill_settings (Some fill) = setting (codes "fill") (codes "#000000") (rgb_text fill.rgb) ∷ setting (codes "fill-rule") (codes "nonzero") (rule_text fill.rule) ∷ []
+fill_settings (Some fill) =
+    setting (codes "fill") (codes "#000000") (rgb_text fill.rgb)
+    ∷ setting (codes "fill-rule") (codes "nonzero") (rule_text fill.rule)
+    ∷ []
 
 -- what belongs to a stroke stands only on a path that is drawn
 abbrev pub stroke_settings : Option Stroke → List Setting
@@ -124,22 +130,24 @@ stroke_settings (Some stroke) =
 
 -- the data, and then what differs of the fill and of the stroke
 abbrev pub path_attributes : List Seg → Option Fill → Option Stroke → List Attribute
-path_attributes segs fill stroke = (codes "d", data_text segs) ∷ differing (fill_settings fill ++ stroke_settings stroke)
+path_attributes segs fill stroke =
+    (codes "d", data_text segs) ∷ differing (fill_settings fill ++ stroke_settings stroke)
 
 -- the line of an item; labels are not written
 unfoldable pub item_text : Item → List ℕ
-item_text (Path segs fill stroke) = codes "<path" ++ attributes_text (path_attributes segs fill stroke) ++ codes "/>\n"
+item_text (Path segs fill stroke) =
+    codes "<path" ++ attributes_text (path_attributes segs fill stroke) ++ codes "/>\n"
 item_text (Label label) = []
 
 -- ---- the document
 
 -- how wide a frame is
-abbrev pub width_of : Frame → ℤ
-width_of frame = frame.right -ℤ frame.left
+abbrev pub frame_width : Frame → ℤ
+frame_width frame = frame.right -ℤ frame.left
 
 -- how high a frame is
-abbrev pub height_of : Frame → ℤ
-height_of frame = frame.top -ℤ frame.bottom
+abbrev pub frame_height : Frame → ℤ
+frame_height frame = frame.top -ℤ frame.bottom
 
 -- a length in SVG's points
 abbrev pub points_text : ℤ → List ℕ
@@ -147,15 +155,16 @@ points_text w = text_of (size_of w) ++ codes "pt"
 
 -- left, top turned downward, width, height
 abbrev pub box_text : Frame → List ℕ
-box_text frame = numbers_text (frame.left ∷ neg_ℤ frame.top ∷ width_of frame ∷ height_of frame ∷ [])
+box_text frame =
+    numbers_text (frame.left ∷ neg_ℤ frame.top ∷ frame_width frame ∷ frame_height frame ∷ [])
 
 -- the attributes of the outermost element, in order
 abbrev pub svg_attributes : Drawing → List Attribute
 svg_attributes d =
     (codes "xmlns", codes "http://www.w3.org/2000/svg")
     ∷ (codes "version", codes "1.1")
-    ∷ (codes "width", points_text (width_of d.frame))
-    ∷ (codes "height", points_text (height_of d.frame))
+    ∷ (codes "width", points_text (frame_width d.frame))
+    ∷ (codes "height", points_text (frame_height d.frame))
     ∷ (codes "viewBox", box_text d.frame)
     ∷ (codes "font-family", d.family)
     ∷ (codes "font-size", text_of d.size)
@@ -167,4 +176,5 @@ svg_text d = codes "<svg" ++ attributes_text (svg_attributes d) ++ codes ">\n"
 
 -- the document of a drawing
 unfoldable pub document_text : Drawing → List ℕ
-document_text d = declaration ++ codes "\n" ++ svg_text d ++ flat_map item_text d.items ++ codes "</svg>\n"
+document_text d =
+    declaration ++ codes "\n" ++ svg_text d ++ flat_map item_text d.items ++ codes "</svg>\n"

@@ -7,7 +7,7 @@ ghost use Rattle.tk_num.specs.Text.{text_of};
 ghost use Rattle.tk_item.specs.declared.Item.TheVariants.{Path};
 ghost use Rattle.tk_svg.specs.Document.{IsFamily};
 ghost use Rattle.tk_svg.specs.Fitting.{Fits, FitsBox};
-ghost use Rattle.tk_svgwrite.specs.Plain.{attribute_text, attributes_text, differing, fill_settings, stroke_settings, item_text, points_text, numbers_text, box_text, width_of, height_of, svg_text};
+ghost use Rattle.tk_svgwrite.specs.Plain.{attribute_text, attributes_text, differing, fill_settings, stroke_settings, item_text, points_text, numbers_text, box_text, frame_width, frame_height, svg_text};
 ghost use Rattle.tk_svgwrite.specs.Ranges.{FillInRange, StrokeInRange, StrokeNumbersInRange, ItemInRange};
 
 use crate::attributes::{
@@ -110,15 +110,15 @@ pub fn put_svg(out: &mut Vec<u8>, drawing: &Drawing) -> Result<(), AllocError>
 }
 
 fn put_width(out: &mut Vec<u8>, frame: Frame) -> Result<(), AllocError>
-    requires { FitsBox (width_of frame) }
-    ensures { OnOk result (out.new.items ≡ out.old.items ++ attribute_text (codes "width", points_text (width_of frame))) }
+    requires { FitsBox (frame_width frame) }
+    ensures { OnOk result (out.new.items ≡ out.old.items ++ attribute_text (codes "width", points_text (frame_width frame))) }
 {
     put_points(out, b"width", frame.right - frame.left)
 }
 
 fn put_height(out: &mut Vec<u8>, frame: Frame) -> Result<(), AllocError>
-    requires { FitsBox (height_of frame) }
-    ensures { OnOk result (out.new.items ≡ out.old.items ++ attribute_text (codes "height", points_text (height_of frame))) }
+    requires { FitsBox (frame_height frame) }
+    ensures { OnOk result (out.new.items ≡ out.old.items ++ attribute_text (codes "height", points_text (frame_height frame))) }
 {
     put_points(out, b"height", frame.top - frame.bottom)
 }
@@ -137,8 +137,8 @@ fn put_points(out: &mut Vec<u8>, name: &[u8], length: i64) -> Result<(), AllocEr
 /// Writes the view box, whose y is downward.
 fn put_view_box(out: &mut Vec<u8>, frame: Frame) -> Result<(), AllocError>
     requires top { FitsBox frame.top }
-    requires width { FitsBox (width_of frame) }
-    requires height { FitsBox (height_of frame) }
+    requires width { FitsBox (frame_width frame) }
+    requires height { FitsBox (frame_height frame) }
     ensures { OnOk result (out.new.items ≡ out.old.items ++ attribute_text (codes "viewBox", box_text frame)) }
 {
     open_attribute(out, b"viewBox")?;
@@ -149,8 +149,8 @@ fn put_view_box(out: &mut Vec<u8>, frame: Frame) -> Result<(), AllocError>
 /// Writes its left side, its top, its width and its height.
 fn put_box(out: &mut Vec<u8>, frame: Frame) -> Result<(), AllocError>
     requires top { FitsBox frame.top }
-    requires width { FitsBox (width_of frame) }
-    requires height { FitsBox (height_of frame) }
+    requires width { FitsBox (frame_width frame) }
+    requires height { FitsBox (frame_height frame) }
     ensures { OnOk result (out.new.items ≡ out.old.items ++ box_text frame) }
 {
     put_box_corner(out, frame)?;
@@ -168,15 +168,15 @@ fn put_box_corner(out: &mut Vec<u8>, frame: Frame) -> Result<(), AllocError>
 }
 
 fn put_box_width(out: &mut Vec<u8>, frame: Frame) -> Result<(), AllocError>
-    requires { FitsBox (width_of frame) }
-    ensures { OnOk result (out.new.items ≡ out.old.items ++ text_of (width_of frame)) }
+    requires { FitsBox (frame_width frame) }
+    ensures { OnOk result (out.new.items ≡ out.old.items ++ text_of (frame_width frame)) }
 {
     put_number(out, frame.right - frame.left)
 }
 
 fn put_box_height(out: &mut Vec<u8>, frame: Frame) -> Result<(), AllocError>
-    requires { FitsBox (height_of frame) }
-    ensures { OnOk result (out.new.items ≡ out.old.items ++ text_of (height_of frame)) }
+    requires { FitsBox (frame_height frame) }
+    ensures { OnOk result (out.new.items ≡ out.old.items ++ text_of (frame_height frame)) }
 {
     put_number(out, frame.top - frame.bottom)
 }
