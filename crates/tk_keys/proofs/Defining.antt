@@ -24,7 +24,7 @@ use Rattle.tk_define.specs.Definitions.{body_in, def, new_command, Defined, for_
 use Rattle.tk_keys.proofs.Reading.{Within, TokenWithin, spaces_within, token_within, after_token_within, value_within}
 use Rattle.tk_keys.proofs.Standing.{then_at, if_at, both_at}
 use Rattle.tk_token.proofs.Outside.{group_keeps, group_shorter}
-use Rattle.tk_expand.proofs.Falling.{full_spends}
+use Rattle.tk_keys.proofs.Spending.{full_spends}
 
 module _ (P : ℕ → Type 0) (n end : ℕ) where
   abbrev Counted : Read ℕ → Type 0

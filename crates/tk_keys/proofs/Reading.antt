@@ -22,7 +22,6 @@ module _ (P : ℕ → Type 0) where
   -- ---- as they are written
 
   pub spaces_at : (ts : List Tok) → StandAt P ts → StandAt P (after_spaces ts)
-  unfolding after_spaces
   spaces_at ts h = dropped_at P (prefix_len is_space_token ts) ts h
 
   -- at most so many tokens are left, they stand at such places, and the list ends at one
@@ -33,7 +32,6 @@ module _ (P : ℕ → Type 0) where
     pub last : P list.end
 
   pub spaces_within : (n end : ℕ) (list : Unread) → Within n end list → Within n end (past_spaces list)
-  unfolding after_spaces
   spaces_within n end list h =
       let k : ℕ = prefix_len is_space_token list.rest in
       record { short = (let a = h.short in omega (arith, length-drop k list.rest)); rest = spaces_at list.rest h.rest; same = h.same; last = h.last }

@@ -3,7 +3,5 @@
 
 mod settings;
 mod state;
-#[cfg(test)]
-mod tests;
 
 pub use state::State;

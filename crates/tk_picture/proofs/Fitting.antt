@@ -3,7 +3,7 @@ use Rattle.std.proofs.Common.{◌≡◌, refl, arith, lit<, codes, subst, sym}
 use Rattle.std.proofs.lemmas.Int.{ints}
 use Rattle.std.specs.List.{AllByRecursion}
 use Rattle.tk_item.specs.declared.Drawing.{Drawing}
-use Rattle.tk_item.specs.Frame.{IsProper}
+use Rattle.tk_item.specs.Frame.{IsProperFrame}
 use Rattle.tk_svg.specs.Document.{IsFamily}
 use Rattle.tk_svg.specs.Fitting.{Fits, FitsItem}
 
@@ -11,7 +11,7 @@ is_family : IsFamily (codes "monospace")
 is_family = record { some = lit< tt; each = refl }
 
 -- a drawing of a proper frame and fitting items fits
-pub fits : (d : Drawing) → IsProper d.frame → d.family ≡ codes "monospace" → AllByRecursion FitsItem d.items → Fits d
+pub fits : (d : Drawing) → IsProperFrame d.frame → d.family ≡ codes "monospace" → AllByRecursion FitsItem d.items → Fits d
 fits d p f h = record {
   sides = p.across;
   heights = p.upward;

@@ -8,7 +8,7 @@ use Rattle.tk_item.specs.declared.Seg.TheVariants.{Move}
 use Rattle.tk_item.specs.declared.Item.{Item}
 use Rattle.tk_item.specs.declared.Item.TheVariants.{Path}
 use Rattle.tk_item.specs.declared.Frame.{Frame}
-use Rattle.tk_item.specs.Frame.{points_of, round_points}
+use Rattle.tk_item.specs.Frame.{half_width, points_of_path, round_points}
 
 -- the path that is being read: its pieces so far
 pub record CurrentPath : Type 0 where
@@ -40,7 +40,7 @@ first_pen = record { rgb = record { r = 0; g = 0; b = 0 }; width = pos 26214; ca
 -- a path of these pieces is drawn; a Move at its end is dropped, so that one of a Move alone draws nothing
 abbrev pub drawn_by : List Seg → Picture → Picture
 drawn_by (Move p ∷ []) pic = pic
-drawn_by segs pic = record pic { items = pic.items ++ Path segs None (Some first_pen) ∷ []; frame = round_points (pos 13107) pic.frame (points_of segs) }
+drawn_by segs pic = record pic { items = pic.items ++ Path segs None (Some first_pen) ∷ []; frame = round_points (half_width first_pen.width) pic.frame (points_of_path segs) }
 
 -- the path that was read is drawn
 abbrev pub drawn : Picture → Picture

@@ -3,7 +3,7 @@ use Rattle.std.specs.Prelude.{◌≡◌, ℕ, List, Option, Ok, IfSome}
 use Rattle.std.specs.List.{AllByRecursion}
 use Rattle.tk_item.specs.declared.Point.{Point}
 use Rattle.tk_item.specs.declared.Seg.{Seg}
-use Rattle.tk_item.specs.Frame.{IsProper}
+use Rattle.tk_item.specs.Frame.{IsProperFrame}
 use Rattle.tk_svg.specs.Fitting.{FitsItem, IsPath}
 use Rattle.tk_token.specs.declared.Tok.{Tok}
 use Rattle.tk_expand.specs.Unread.{Unread}
@@ -65,7 +65,7 @@ begun_of beginnings.Other = Begins_other
 pub record IsSound (d : Drawer) : Type 0 where
   pub items : AllByRecursion FitsItem d.items
   pub paths : AllByRecursion IsPath d.items
-  pub proper : IfSome d.frame IsProper
+  pub proper : IfSome d.frame IsProperFrame
 
 -- nothing but the units paid is another
 abbrev pub OnlyPays : Drawer → Drawer → Type 0

@@ -3,7 +3,7 @@
 ghost use Rattle.std.specs.Prelude.{◌≡◌, ◌≤◌, [], List, Ok, Err, length, take, IfOk, IfErr, OnOk, IfSome, codes, unwrap_or};
 ghost use Rattle.std.specs.List.{AllByRecursion};
 ghost use Rattle.std.specs.Str.{IsUtf8};
-ghost use Rattle.tk_item.specs.Frame.{IsProper};
+ghost use Rattle.tk_item.specs.Frame.{IsProperFrame};
 ghost use Rattle.tk_svg.specs.Fitting.{Fits, IsPath};
 ghost use Rattle.tk_token.specs.Refusals.{Gives, OnFault};
 ghost use Rattle.tk_token.specs.Spaces.{after_spaces};
@@ -171,9 +171,9 @@ fn font_units() -> FontUnits
 
 /// The frame of a drawing, which is all 0 where nothing was drawn.
 fn whole_frame(frame: Option<Frame>) -> Frame
-    requires { IfSome frame IsProper }
+    requires { IfSome frame IsProperFrame }
     ensures value { result ≡ unwrap_or frame no_frame }
-    ensures proper { IsProper result }
+    ensures proper { IsProperFrame result }
 {
     match frame {
         Some(frame) => frame,
