@@ -28,6 +28,11 @@ paid budget units cost at = go (nat_lt budget (units + cost)) refl
     go true e = tt
     go false e = (refl, ltb-false _ _ e)
 
+-- a token that is there is one token
+pub one_there : (wanted : Kind → Bool) (token : Option Tok) → is_there wanted token ≡ true → length (option_to_list token) ≡ 1
+one_there wanted None h = absurd cc
+one_there wanted (Some t) h = omega arith
+
 -- ---- from one stream to a later one
 
 module _ (budget : ℕ) where
@@ -164,11 +169,6 @@ module _ (budget : ℕ) (macros : Macros) where
   pub next_takes : (s : Stream) → IfOk (next budget macros s) (Takes budget s)
   unfolding next
   next_takes s = then_holds (Falls budget s) (Takes budget s) (front budget macros s) _ (front_falls s) (λ m f. taken_from s m f m.list.rest refl)
-
-  -- a token that is there is one token
-  pub one_there : (wanted : Kind → Bool) (token : Option Tok) → is_there wanted token ≡ true → length (option_to_list token) ≡ 1
-  one_there wanted None h = absurd cc
-  one_there wanted (Some t) h = omega arith
 
   solid_from : (rec : Stream → Answer Next) → ((s : Stream) → IfOk (rec s) (Takes budget s)) → (s : Stream) (n : Next) → Takes budget s n → (b : Bool) → IfOk (if b then rec n.stream else Ok n) (Takes budget s)
   solid_from rec h s n f true = takes_further budget s n.stream (rec n.stream) (takes_falls budget s n f) (h n.stream)

@@ -1,11 +1,12 @@
 -- Where a list runs out doesn't matter to its expansion.
-use Rattle.std.specs.Prelude.{◌≡◌, ℕ, zero, suc, ◌+◌, ◌<◌, ◌≤◌, List, [], ◌∷◌, ◌++◌, length, Option, Some, None, Ok, Err, IfOk}
+use Rattle.std.specs.Prelude.{◌≡◌, ℕ, zero, suc, ◌+◌, ◌<◌, ◌≤◌, List, [], ◌∷◌, ◌++◌, length, Option, Some, None, Result, Ok, Err, IfOk, Vec}
+use Rattle.std.specs.declared.alloc.Global.{Global}
 use Rattle.std.proofs.Common.{refl, ◌∙◌, ap, sym, subst, arith}
 use Rattle.tk_token.specs.declared.Tok.{Tok}
 use Rattle.tk_token.specs.declared.Refusal.{Refusal}
 use Rattle.tk_token.specs.Answers.{Answer, ◌>>=◌}
 use Rattle.tk_token.specs.Groups.{Cut}
-use Rattle.tk_token.specs.Refusals.{Fails}
+use Rattle.tk_token.specs.Refusals.{Fails, Gives}
 use Rattle.tk_token.proofs.Answering.{fails_as, fails_then}
 use Rattle.tk_store.specs.declared.Macro.{Macro}
 use Rattle.tk_store.specs.Levels.{Macros}
@@ -81,3 +82,10 @@ module _ (budget : ℕ) (macros : Macros) (end : ℕ) where
 
   pub full_moved_fails : (units : ℕ) (list : List Tok) (e : Refusal) → Fails e (full budget macros (stream units (unread list 0))) → Fails e (full budget macros (stream units (unread list end)))
   full_moved_fails units list e h = fails_as e _ _ (full_moved (stream units (unread list 0))) (fails_then e (full budget macros (stream units (unread list 0))) _ h)
+
+-- what a call gave of a list that runs out at 0 it gave of the list that runs out anywhere
+pub moved_gives : (budget : ℕ) (macros : Macros) (units paid : ℕ) (list list' : List Tok) (result : Result (Vec Tok Global) Refusal) → list' ≡ list → Gives (λ text. stream paid (unread text.items 0)) result (full budget macros (stream units (unread list' 0))) → (end : ℕ) → Gives (λ text. stream paid (unread text.items end)) result (full budget macros (stream units (unread list end)))
+moved_gives budget macros units paid list list' (Ok text) same h end =
+    full_moved_known budget macros end units paid list text.items (ap (λ (ts : List Tok). full budget macros (stream units (unread ts 0))) (sym same) ∙ h)
+moved_gives budget macros units paid list list' (Err e) same h end =
+    full_moved_fails budget macros end units list e (fails_as e _ _ (ap (λ (ts : List Tok). full budget macros (stream units (unread ts 0))) (sym same)) h)

@@ -1,5 +1,5 @@
 -- Lists that lie on one another.
-use Rattle.std.proofs.Common.{◌≡◌, ℕ, zero, suc, List, [], ◌∷◌, ◌++◌, length, take, get_or, slice_get, Some, refl, sym, ap, ◌∙◌, append_assoc, arith, slice_set}
+use Rattle.std.proofs.Common.{◌≡◌, ℕ, zero, suc, List, [], ◌∷◌, ◌++◌, length, take, get_or, slice_get, Some, None, refl, sym, ap, ◌∙◌, append_assoc, arith, slice_set}
 use Rattle.std.proofs.lemmas.List.{append-nil}
 use Rattle.tk_token.specs.declared.Tok.{Tok}
 use Rattle.tk_expand.specs.Stack.{stacked}
@@ -76,3 +76,12 @@ last_first lists i last d is there = stacked-last lists i d is ∙ ap (λ (ts : 
 -- an empty list in its place is left out
 pub last_left_out : (lists lists' : List (List Tok)) (i : ℕ) (new : List Tok) → suc i ≡ length lists → new ≡ [] → lists' ≡ take i (slice_set lists i new) → stacked lists' ≡ new ++ stacked (take i lists)
 last_left_out lists lists' i new is none rest = ap stacked (rest ∙ take-set lists i new) ∙ ap (λ (ts : List Tok). ts ++ stacked (take i lists)) (sym none)
+
+-- with no list there is no first token
+pub none_first : (lists : List (List Tok)) → length lists ≡ 0 → slice_get (stacked lists) 0 ≡ None
+none_first lists is = ap (λ (ts : List Tok). slice_get ts 0) (none-left lists is)
+
+-- a list of 0 tokens has none
+pub no_tokens : (ts : List Tok) → length ts ≡ 0 → ts ≡ []
+no_tokens [] is = refl
+no_tokens (t ∷ ts) is = absurd (omega (arith, is))

@@ -1,14 +1,19 @@
 -- The search for one token outside braces.
-use Rattle.std.proofs.Common.{◌≡◌, ℕ, ◌+◌, ◌<◌, Bool, true, false, List, [], ◌∷◌, ◌++◌, length, drop, Option, Some, None, refl, sym, ap, ◌∙◌}
+use Rattle.std.proofs.Common.{◌≡◌, ℕ, suc, ◌+◌, ◌-◌, ◌<◌, ◌≤◌, Bool, true, false, List, [], ◌∷◌, ◌++◌, length, take, drop, get_or, Option, Some, None, refl, sym, ap, subst, ◌∙◌, arith, length-append, length-drop}
+use Rattle.std.proofs.Math.Seq.{drop-append_seam}
+use Rattle.std.proofs.lemmas.List.{drop-drop}
 use Rattle.std.specs.Prelude.{◌&&◌, ◌==◌, if◌then◌else◌, option_map, IfSome}
 use Rattle.tk_token.specs.declared.Kind.{Kind}
+use Rattle.tk_token.specs.declared.Sought.{Sought}
 use Rattle.tk_token.specs.declared.Tok.{Tok}
 use Rattle.tk_token.specs.Groups.{Cut, cut, with_first, depth_after, first_outside_in, first_outside, past_first}
 use Rattle.tk_token.specs.Kinds.{is_close, begins}
 use Rattle.tk_token.specs.Sought.{begins_sought}
-use Rattle.tk_token.proofs.Outside.{PartsAt, Parts, parts, prefixed, ends, finds, closes, goes}
+use Rattle.tk_token.proofs.Outside.{Parts, parts, before_char_shorter, group_shorter, prefixed, ends, finds, closes, goes}
 use Rattle.tk_expand.specs.declared.rest.Stop.{Stop}
 use Rattle.tk_expand.specs.declared.rest.Stop.TheVariants.{Char, Close}
+use Rattle.tk_expand.specs.Stack.{stacked}
+use Rattle.tk_expand.proofs.Stacks.{last_first}
 use Rattle.tk_expand.specs.Stops.{is_stop, sought_of, before_stop}
 
 -- a stop is sought as such a token
@@ -69,3 +74,50 @@ module _ (stop : Stop) (depth : ℕ) (front rest all : List Tok) (told : first_o
 
     pub stop_goes : (depth == 0 && is_stop stop t.kind) ≡ false → (depth == 0 && is_close t.kind) ≡ false → (new : List Tok) (deeper : ℕ) → new ≡ front ++ t ∷ [] → deeper ≡ depth_after depth t.kind → first_outside (begins (is_stop stop)) all ≡ prefixed new (first_outside_in (begins (is_stop stop)) deeper ts)
     stop_goes h k new deeper pushed deep = goes (begins (is_stop stop)) depth front rest (first_outside (begins (is_stop stop)) all) told t ts is h k new deeper pushed deep
+
+-- ---- over slices
+
+-- before a stop stand fewer tokens than there are
+pub stop_shorter : (stop : Stop) (ts : List Tok) → IfSome (before_stop stop ts) (λ c. length c.front + length c.rest < length ts)
+stop_shorter (Char c) ts = before_char_shorter c ts
+stop_shorter Close ts = group_shorter ts
+
+known_if : (P : Cut → Type 0) (o : Option Cut) (c : Cut) → IfSome o P → o ≡ Some c → P c
+known_if P o c h e = subst (λ (o : Option Cut). IfSome o P) e h
+
+pub known_shorter : (stop : Stop) (ts front rest : List Tok) → before_stop stop ts ≡ Some (cut front rest) → length front + length rest < length ts
+known_shorter stop ts front rest e = known_if (λ c. length c.front + length c.rest < length ts) (before_stop stop ts) (cut front rest) (stop_shorter stop ts) e
+
+-- what the search finds in a list from a place on, and where the list goes on
+pub taken_there : (stop : Stop) (list : List Tok) (from : ℕ) (sought : Sought) (left front rest : List Tok) → from ≤ length list → left ≡ drop from list → sought ≡ sought_of stop → Some (cut front rest) ≡ first_outside (begins_sought sought) left → (length rest ≤ length list) × ((length list - length rest) + 1 ≤ length list) × (before_stop stop left ≡ Some (cut front (drop ((length list - length rest) + 1) list)))
+taken_there stop list from sought left front rest le view is found = at_rest rest refl p.1 p.0
+  where
+    known : first_outside (begins (is_stop stop)) left ≡ Some (cut front rest)
+    known = sym (stop_sought stop left) ∙ ap (λ (s : Sought). first_outside (begins_sought s) left) (sym is) ∙ sym found
+
+    p : Parts (begins (is_stop stop)) left (cut front rest)
+    p = known_if (Parts (begins (is_stop stop)) left) (first_outside (begins (is_stop stop)) left) (cut front rest) (parts (begins (is_stop stop)) left) known
+
+    at_rest : (ts : List Tok) → ts ≡ rest → begins (is_stop stop) ts ≡ true → front ++ ts ≡ left → (length rest ≤ length list) × ((length list - length rest) + 1 ≤ length list) × (before_stop stop left ≡ Some (cut front (drop ((length list - length rest) + 1) list)))
+    at_rest [] same b e = absurd cc
+    at_rest (t ∷ us) same b e = (
+      omega (arith, ap length same, ap length e, ap length view, length-append front (t ∷ us), length-drop from list),
+      omega (arith, ap length same, ap length e, ap length view, length-append front (t ∷ us), length-drop from list),
+      ap past_first known ∙ ap (λ (ts : List Tok). (let o : Option Cut = Some (cut front ts) in o)) (
+          ap (drop 1) (sym (drop-append_seam front rest)) ∙ ap (λ (ts : List Tok). drop 1 (drop (length front) ts)) (p.0 ∙ view)
+          ∙ ap (drop 1) (drop-drop (length front) from list) ∙ drop-drop 1 (from + length front) list
+          ∙ ap (λ (n : ℕ). drop n list) (let n : (from + length front) + 1 ≡ (length list - length rest) + 1 = omega (arith, ap length same, ap length e, ap length view, length-append front (t ∷ us), length-drop from list) in n)),
+    )
+
+pub found_shorter : (stop : Stop) (ts us front rest : List Tok) (found : Bool) → before_stop stop ts ≡ (if found then Some (cut front rest) else None) → found ≡ true → ts ≡ us → length front + length rest < length us
+found_shorter stop ts us front rest found e h same =
+    known_shorter stop us front rest (ap (before_stop stop) (sym same) ∙ e ∙ ap (λ (b : Bool). (let o : Option Cut = if b then Some (cut front rest) else None in o)) h)
+
+-- ---- in the list that is read first
+
+-- a stop in the last list is found, and the lists behind it stay
+pub before_last : (stop : Stop) (lists lists' : List (List Tok)) (i : ℕ) (old new front : List Tok) → suc i ≡ length lists → old ≡ get_or lists i old → Some (cut front new) ≡ before_stop stop old → stacked lists' ≡ new ++ stacked (take i lists) → before_stop stop (stacked lists) ≡ Some (cut front (stacked lists'))
+before_last stop lists lists' i old new front is there known rest =
+    ap (before_stop stop) (last_first lists i old old is there)
+    ∙ before_more (is_stop stop) old (stacked (take i lists)) front new (sym known)
+    ∙ ap (λ (ts : List Tok). (let o : Option Cut = Some (cut front ts) in o)) (sym rest)

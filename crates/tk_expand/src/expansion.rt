@@ -1,12 +1,12 @@
 //! Macro calls: their arguments, their texts, and what they cost.
 
 ghost use Rattle.std.specs.Prelude.{◌≡◌, ◌+◌, ◌-◌, ◌≤◌, ◌^◌, ℕ, [], ◌++◌, length, true, Ok, Err, MatchOption, MatchResult, IfOk, IfNone, OnOk};
-ghost use Rattle.std.specs.Option.{option_to_list};
+ghost use Rattle.std.specs.Option.{option_to_list, is_some};
 ghost use Rattle.tk_token.specs.Refusals.{Gives};
 ghost use Rattle.tk_expand.specs.Arguments.{arguments_of, given, with_arguments, put_in};
 ghost use Rattle.tk_expand.specs.Texts.{texts_of};
 ghost use Rattle.tk_expand.specs.Unread.{unread};
-ghost use Rattle.tk_expand.specs.Expand.{cost_of, pay, stream, replaced, full, is_expanded};
+ghost use Rattle.tk_expand.specs.Expand.{cost_of, pay, stream, called_by, replaced, full, is_expanded};
 ghost use Rattle.tk_expand.specs.Reading.{taken, next};
 
 use crate::{Input, Units};

@@ -179,6 +179,8 @@ impl Input {
             (λ found. option_map (λ front. cut front.items self.new.rest) found ≡ before_stop stop self.old.rest) }
         ensures none { IfOk result (λ found. IfNone found (self.new ≡ self.old)) }
         ensures end { OnOk result (self.new.end ≡ self.old.end) }
+        ensures shorter { IfOk result
+            (λ found. IfSome found (λ front. length front.items + length self.new.rest < length self.old.rest)) }
     {
         if let Some(front) = self.before_in_first(stop)? {
             return Ok(Some(front));
@@ -203,11 +205,14 @@ impl Input {
         }
         let last = self.stack.len() - 1;
         let list = &mut self.stack[last];
-        let found = list.take_before(self.alloc, stop)?;
-        if list.is_empty() {
-            self.stack.truncate(last);
+        let Some(front) = list.take_before(self.alloc, stop)? else {
+            return Ok(None);
+        };
+        if !list.is_empty() {
+            return Ok(Some(front));
         }
-        Ok(found)
+        self.stack.truncate(last);
+        Ok(Some(front))
     }
 
     /// Takes the tokens before the first stop outside braces, and the stop, one by one, and tells whether it was found.
@@ -221,11 +226,11 @@ impl Input {
         let mut front = Vec::new(self.alloc);
         let mut depth: usize = 0;
         while let Some(tok) = self.raw() {
-            if depth == 0 && stop.is(tok.kind) {
+            if stop.is(depth, tok.kind) {
                 return Ok((front, true));
             }
             front.push(tok)?;
-            if depth == 0 && tok.kind.is_close() {
+            if Stop::Close.is(depth, tok.kind) {
                 return Ok((front, false));
             }
             depth = depth_after(depth, tok.kind);

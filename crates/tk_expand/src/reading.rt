@@ -1,6 +1,6 @@
 //! What stands next as it is written. None of these calls takes memory.
 
-ghost use Rattle.std.specs.Prelude.{◌≡◌, ◌<◌, ◌≤◌, length, OnOk};
+ghost use Rattle.std.specs.Prelude.{◌≡◌, ◌<◌, ◌≤◌, length, true, false, IfErr, OnOk, OnErr};
 ghost use Rattle.tk_token.specs.Kinds.{is_char, is_open, is_close};
 ghost use Rattle.tk_expand.specs.Reading.{read, next_token, after_token, after_text, after_name};
 ghost use Rattle.tk_expand.specs.Tells.{Tells};

@@ -1,6 +1,6 @@
 //! Lists of which the first tokens were read.
 
-ghost use Rattle.std.specs.Prelude.{◌≡◌, ◌<◌, ◌==◌, ◌∷◌, length, slice_get, Some, IfOk, IfNone};
+ghost use Rattle.std.specs.Prelude.{◌≡◌, ◌<◌, ◌==◌, ◌&&◌, ◌∷◌, length, slice_get, Some, IfOk, IfNone, OnErr};
 ghost use Rattle.std.specs.Option.{option_map};
 ghost use Rattle.tk_token.specs.Groups.{cut};
 ghost use Rattle.tk_expand.specs.Stops.{is_stop, sought_of, before_stop};
@@ -18,10 +18,13 @@ pub(crate) enum Stop {
 }
 
 impl Stop {
-    /// Whether it is that token.
-    pub(crate) fn is(self, kind: Kind) -> bool
-        ensures { result ≡ is_stop self kind }
+    /// Whether it is that token, where so many braces are open.
+    pub(crate) fn is(self, depth: usize, kind: Kind) -> bool
+        ensures { result ≡ (depth == 0 && is_stop self kind) }
     {
+        if depth > 0 {
+            return false;
+        }
         match self {
             Stop::Char(wanted) => kind.is_char(wanted),
             Stop::Close => kind.is_close(),
@@ -102,12 +105,13 @@ impl Rest {
     ) -> Result<Option<Vec<Tok>>, AllocError>
         ensures gives { IfOk result (λ found. option_map (λ front. cut front.items self.new) found ≡ before_stop stop self.old) }
         ensures none { IfOk result (λ found. IfNone found (self.new ≡ self.old)) }
+        ensures err { OnErr result (self.new ≡ self.old) }
     {
-        let Some((front, _)) = first_outside(self.as_slice(), stop.sought()) else {
+        let Some((front, rest)) = first_outside(self.as_slice(), stop.sought()) else {
             return Ok(None);
         };
         let front = Vec::from_slice(alloc, front)?;
-        self.from += front.len() + 1;
+        self.from = self.list.as_slice().len() - rest.len() + 1;
         Ok(Some(front))
     }
 }
