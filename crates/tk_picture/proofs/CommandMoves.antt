@@ -10,13 +10,14 @@ use Rattle.tk_item.specs.declared.Seg.TheVariants.{Move, Line, Curve, Close}
 use Rattle.tk_token.specs.declared.Code.TheVariants.{Budget, Levels, Unbuilt}
 use Rattle.tk_token.specs.declared.Tok.{Tok}
 use Rattle.tk_token.specs.Answers.{Answer, ◌>>=◌, fault}
+use Rattle.tk_token.specs.Spaces.{after_spaces}
 use Rattle.tk_token.proofs.Answering.{then_alike}
 use Rattle.tk_token.proofs.Fixpoint.{kept}
 use Rattle.tk_store.specs.declared.Macro.{Macro}
 use Rattle.tk_expand.specs.Unread.{Unread, past_spaces}
 use Rattle.tk_expand.specs.Expand.{Stream, work}
 use Rattle.tk_expand.specs.Reading.{Read, next_token, after_name}
-use Rattle.tk_expand.proofs.Falling.{Falls}
+use Rattle.tk_expand.proofs.NextPlaces.{TokenAt}
 use Rattle.tk_expand.proofs.Places.{StandAt, Stands, BodiesAt}
 use Rattle.tk_keys.specs.Environment.{Env, first_env, level}
 use Rattle.tk_keys.specs.Given.{Given}
@@ -57,6 +58,10 @@ module _ (P : ℕ → Type 0) (given : Given) (begin : P 0) (evaluates : Evaluat
   goes_on : (c : Configuration) (p : Progress) → At P given c → Returns P given c p → PartAt c (Goes_on (with_progress c p))
   goes_on c p h k = record { fell = k.fell; at = record { bodies = h.bodies; rest = k.rest; end = k.end } }
 
+  -- what comes back from a level of its own
+  from_inside : (c : Configuration) (inside : Env) (p : Progress) → Returns P given (record c { env = inside }) p → Returns P given c p
+  from_inside c inside p h = record { fell = h.fell; rest = h.rest; end = h.end }
+
   path_drawn : (c : Configuration) (p : Progress) → Returns P given c p → Returns P given c (with_path p)
   path_drawn c p h =
       let same = drawn_units p.picture.path.segs p.picture in
@@ -70,11 +75,11 @@ module _ (P : ℕ → Type 0) (given : Given) (begin : P 0) (evaluates : Evaluat
     command_moves : (b : Beginning) (t : Tok) (opener : Opener) (c : Configuration) → P t.at → At P given c → Stands P (PartAt c) (command given rec b t opener c)
     command_moves Begins_path t opener c p k =
         then_at P (λ (e : Env). BodiesAt P e.macros) (PartAt c) (level t.at c.env) _ (level_at t.at c.env p k.bodies) (λ inside m.
-        then_at P (Returns P given c) (PartAt c) (path given t.at (record c { env = inside })) _ (path_at P given begin evaluates t.at (record c { env = inside }) (record { bodies = m; rest = k.rest; end = k.end })) (λ q r.
+        then_at P (Returns P given c) (PartAt c) (path given t.at (record c { env = inside })) _ (weaker_at P (Returns P given (record c { env = inside })) (Returns P given c) (path given t.at (record c { env = inside })) (from_inside c inside) (path_at P given begin evaluates t.at (record c { env = inside }) (record { bodies = m; rest = k.rest; end = k.end }))) (λ q r.
         goes_on c (with_path q) k (path_drawn c q r)))
     command_moves Opens_group t opener c p k =
         then_at P (λ (e : Env). BodiesAt P e.macros) (PartAt c) (level t.at c.env) _ (level_at t.at c.env p k.bodies) (λ inside m.
-        then_at P (Returns P given c) (PartAt c) (rec (block (A_group t.at) (record c { env = inside }))) _ (h (block (A_group t.at) (record c { env = inside })) (record { bodies = m; rest = k.rest; end = k.end })) (λ q r.
+        then_at P (Returns P given c) (PartAt c) (rec (block (A_group t.at) (record c { env = inside }))) _ (weaker_at P (Returns P given (record c { env = inside })) (Returns P given c) (rec (block (A_group t.at) (record c { env = inside }))) (from_inside c inside) (h (block (A_group t.at) (record c { env = inside })) (record { bodies = m; rest = k.rest; end = k.end }))) (λ q r.
         goes_on c q k r))
     command_moves Closes_group t (A_picture at) c p k = p
     command_moves Closes_group t (A_group at) c p k = record { fell = record { end = refl; units = omega arith; work_falls = omega arith }; rest = k.rest; end = k.end }
@@ -85,7 +90,7 @@ module _ (P : ℕ → Type 0) (given : Given) (begin : P 0) (evaluates : Evaluat
     command_moves Begins_other t opener c p k =
         then_at P (λ set. IfSome set (SetAt P given.budget (stream_at c))) (PartAt c) (one_setting given t c.env (stream_at c)) _ (one_setting_at P given t c.env (stream_at c) k.bodies k.rest k.end) (λ set m. set_at t.at c set p m)
 
-    pub command_at_moves : (opener : Opener) (token : Option Tok) (c : Configuration) → IfSome token (λ t. P t.at) → At P given c → Stands P (PartAt c) (command_at given rec opener token c)
+    pub command_at_moves : (opener : Opener) (token : Option Tok) (c : Configuration) → TokenAt P token → At P given c → Stands P (PartAt c) (command_at given rec opener token c)
     command_at_moves opener None c p k = k.end
     command_at_moves opener (Some t) c p k = command_moves (beginning_of given.names t.kind) t opener c p k
 
@@ -95,7 +100,7 @@ module _ (P : ℕ → Type 0) (given : Given) (begin : P 0) (evaluates : Evaluat
 
     step_moves : (b : Block) → At P given b.start → Stands P (Returns P given b.start) (commands_step given rec b)
     step_moves b k =
-        then_at P (Looks P given b.start) (Returns P given b.start) (ahead_of given b.start) _ (ahead_at P given begin b.start k) (λ first a.
+        then_at P (Looks P given b.start) (Returns P given b.start) (ahead_of given b.start) _ (ahead_at P given b.start k) (λ first a.
         then_at P (PartAt first.behind) (Returns P given b.start) (command_at given rec b.opener first.token first.behind) _ (command_at_moves b.opener first.token first.behind a.token a.at) (λ part m.
         weaker_at P (Returns P given first.behind) (Returns P given b.start) (go_on (λ next. rec (block b.opener next)) part) (λ p r. then_returns P given b.start first.behind p (looked P given b.start first a) r) (follows b.opener first.behind part m)))
 
@@ -119,10 +124,7 @@ module _ (P : ℕ → Type 0) (given : Given) (begin : P 0) (evaluates : Evaluat
       then_at P (λ (e : Env). BodiesAt P e.macros) (λ _. Unit {0}) (level at first_env) _ (level_at at first_env p no_bodies) (λ env b.
       let start = configuration env first_picture inside in
       then_at P (Returns P given start) (λ _. Unit {0}) (commands given (block (A_picture at) start)) _ (commands_move (block (A_picture at) start) (record { bodies = b; rest = w.rest; end = w.last })) (λ q r.
-      nothing_at (compiled q.picture) (after_spaces_of q) (spaces_at P q.list.rest r.rest))))
-    where
-      abbrev after_spaces_of : Progress → List Tok
-      after_spaces_of q = (past_spaces q.list).rest
+      nothing_at (compiled q.picture) (after_spaces q.list.rest) (spaces_at P q.list.rest r.rest))))
 
   pub document_at : (list : Unread) → StandAt P list.rest → P list.end → Stands P (λ _. Unit {0}) (document given list)
   unfolding document

@@ -15,7 +15,7 @@ use Rattle.tk_expand.proofs.Places.{StandAt, Stands, StreamAt, BodiesAt}
 use Rattle.tk_keys.specs.Given.{Given}
 use Rattle.tk_picture.specs.Configurations.{Configuration, Progress, stream_at, with_stream, Lookahead, lookahead, place_ahead, must_be, ahead_of, behind_next, behind_letters}
 use Rattle.tk_picture.specs.Flow.{Flow, Goes_on, Finishes}
-use Rattle.tk_keys.proofs.Reading.{NextAt, place_at, next_solid_at, after_next_at, after_letters_at}
+use Rattle.tk_expand.proofs.NextPlaces.{TokenAt, NextAt, next_solid_at, after_next_at, after_letters_at}
 use Rattle.tk_keys.proofs.Standing.{then_at, if_at, both_at}
 
 -- the units and the list that came back
@@ -42,7 +42,7 @@ module _ (P : ℕ → Type 0) (given : Given) where
   -- the run takes a token behind c
   pub record Looks (c : Configuration) (ahead : Lookahead) : Type 0 where
     pub takes : Takes given.budget (stream_at c) (taken ahead.token (stream_at ahead.behind))
-    pub token : IfSome ahead.token (λ t. P t.at)
+    pub token : TokenAt P ahead.token
     pub at : At ahead.behind
 
   -- the run comes back from behind an end
@@ -85,21 +85,20 @@ module _ (P : ℕ → Type 0) (given : Given) where
 
   -- ---- what stands next
 
-  module _ (begin : P 0) where
-    pub ahead_at : (c : Configuration) → At c → Stands P (Looks c) (ahead_of given c)
-    unfolding ahead_of
-    ahead_at c h =
-        then_at P (λ (n : Next). NextAt P n × Takes given.budget (stream_at c) n) (Looks c) (next_solid given.budget c.env.macros (stream_at c)) _ (both_at P (NextAt P) (Takes given.budget (stream_at c)) (next_solid given.budget c.env.macros (stream_at c)) (next_solid_at P given.budget c.env.macros begin h.bodies (stream_at c) h.rest) (next_solid_takes given.budget c.env.macros (stream_at c))) (λ n k.
-        record { takes = k.1; token = k.0.token; at = record { bodies = h.bodies; rest = k.0.rest; end = subst P (sym k.1.end) h.end } })
+  pub ahead_at : (c : Configuration) → At c → Stands P (Looks c) (ahead_of given c)
+  unfolding ahead_of
+  ahead_at c h =
+      then_at P (λ (n : Next). NextAt P n × Takes given.budget (stream_at c) n) (Looks c) (next_solid given.budget c.env.macros (stream_at c)) _ (both_at P (NextAt P) (Takes given.budget (stream_at c)) (next_solid given.budget c.env.macros (stream_at c)) (next_solid_at P given.budget c.env.macros h.bodies (stream_at c) h.rest) (next_solid_takes given.budget c.env.macros (stream_at c))) (λ n k.
+      record { takes = k.1; token = k.0.0; at = record { bodies = h.bodies; rest = k.0.1; end = subst P (sym k.1.end) h.end } })
 
-    pub next_at : (wanted : Kind → Bool) (c : Configuration) → At c → Stands P (Advances c) (behind_next given wanted c)
-    unfolding behind_next
-    next_at wanted c h =
-        then_at P (λ (r : Stream). StreamAt P r × LessLeft given.budget (stream_at c) r) (Advances c) (after_next given.budget c.env.macros Unbuilt wanted (stream_at c)) _ (both_at P (StreamAt P) (LessLeft given.budget (stream_at c)) (after_next given.budget c.env.macros Unbuilt wanted (stream_at c)) (after_next_at P given.budget c.env.macros begin h.bodies Unbuilt wanted (stream_at c) h.rest h.end) (after_next_less given.budget c.env.macros Unbuilt wanted (stream_at c))) (λ r k.
-        record { less = k.1; at = record { bodies = h.bodies; rest = k.0; end = subst P (sym k.1.end) h.end } })
+  pub next_at : (wanted : Kind → Bool) (c : Configuration) → At c → Stands P (Advances c) (behind_next given wanted c)
+  unfolding behind_next
+  next_at wanted c h =
+      then_at P (λ (r : Stream). StreamAt P r × LessLeft given.budget (stream_at c) r) (Advances c) (after_next given.budget c.env.macros Unbuilt wanted (stream_at c)) _ (both_at P (StreamAt P) (LessLeft given.budget (stream_at c)) (after_next given.budget c.env.macros Unbuilt wanted (stream_at c)) (after_next_at P given.budget c.env.macros h.bodies Unbuilt wanted (stream_at c) h.end h.rest) (after_next_less given.budget c.env.macros Unbuilt wanted (stream_at c))) (λ r k.
+      record { less = k.1; at = record { bodies = h.bodies; rest = k.0; end = subst P (sym k.1.end) h.end } })
 
-    pub letters_at : (text : List ℕ) (c : Configuration) → At c → Stands P (Comes c) (behind_letters given text c)
-    unfolding behind_letters
-    letters_at text c h =
-        then_at P (λ (r : Stream). StreamAt P r × Falls given.budget (stream_at c) r) (Comes c) (after_letters given.budget c.env.macros Unbuilt text (stream_at c)) _ (both_at P (StreamAt P) (Falls given.budget (stream_at c)) (after_letters given.budget c.env.macros Unbuilt text (stream_at c)) (after_letters_at P given.budget c.env.macros begin h.bodies Unbuilt text (stream_at c) h.rest h.end) (after_letters_falls given.budget c.env.macros Unbuilt text (stream_at c))) (λ r k.
-        record { fell = k.1; at = record { bodies = h.bodies; rest = k.0; end = subst P (sym k.1.end) h.end } })
+  pub letters_at : (text : List ℕ) (c : Configuration) → At c → Stands P (Comes c) (behind_letters given text c)
+  unfolding behind_letters
+  letters_at text c h =
+      then_at P (λ (r : Stream). StreamAt P r × Falls given.budget (stream_at c) r) (Comes c) (after_letters given.budget c.env.macros Unbuilt text (stream_at c)) _ (both_at P (StreamAt P) (Falls given.budget (stream_at c)) (after_letters given.budget c.env.macros Unbuilt text (stream_at c)) (after_letters_at P given.budget c.env.macros h.bodies Unbuilt text (stream_at c) h.end h.rest) (after_letters_falls given.budget c.env.macros Unbuilt text (stream_at c))) (λ r k.
+      record { fell = k.1; at = record { bodies = h.bodies; rest = k.0; end = subst P (sym k.1.end) h.end } })

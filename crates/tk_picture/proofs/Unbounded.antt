@@ -7,6 +7,7 @@ use Rattle.tk_token.specs.declared.Tok.{Tok}
 use Rattle.tk_token.specs.Answers.{Answer, ◌>>=◌, fault}
 use Rattle.tk_token.specs.Recursion.{by_size}
 use Rattle.tk_token.proofs.Answering.{then_alike}
+use Rattle.tk_expand.proofs.NextPlaces.{TokenAt}
 use Rattle.tk_expand.proofs.Places.{StandAt, Stands}
 use Rattle.tk_keys.specs.Environment.{Env, level}
 use Rattle.tk_keys.specs.Given.{Given}
@@ -65,7 +66,7 @@ module _ (given : Given) where
   -- ---- commands
 
   looks_any : (c : Configuration) → IfOk (ahead_of given c) (Looks Any given c)
-  looks_any c = ok_at Any (Looks Any given c) (ahead_of given c) (ahead_at Any given tt c (any_at c))
+  looks_any c = ok_at Any (Looks Any given c) (ahead_of given c) (ahead_at Any given c (any_at c))
 
   abbrev Falls : Configuration → CommandFlow → Type 0
   Falls c part = moves.PartAt Any given tt any_evaluates c part
@@ -73,7 +74,7 @@ module _ (given : Given) where
   command_falls : (opener : Opener) (token : Option Tok) (c : Configuration) → IfOk (command_at given (commands given) opener token c) (Falls c)
   command_falls opener token c = ok_at Any (Falls c) (command_at given (commands given) opener token c) (moves.command_at_moves Any given tt any_evaluates (commands given) (λ b k. moves.commands_move Any given tt any_evaluates b k) opener token c (any_token token) (any_at c))
     where
-      any_token : (token : Option Tok) → IfSome token (λ t. Any t.at)
+      any_token : (token : Option Tok) → TokenAt Any token
       any_token None = tt
       any_token (Some t) = tt
 
