@@ -1,4 +1,2 @@
-pub mod Written
 pub mod Counting
-pub mod Misfits
 pub mod Kept

@@ -2,22 +2,23 @@
 
 ghost use Rattle.std.specs.Prelude.{◌≡◌, ◌+◌, ◌-◌, ◌<◌, ◌≤◌, length, IfOk, OnOk};
 ghost use Rattle.tk_token.specs.Refusals.{Gives};
-ghost use Rattle.tk_define.specs.Parts.{read};
-ghost use Rattle.tk_define.specs.Bodies.{IsProper};
-ghost use Rattle.tk_define.specs.Definitions.{stands_for, def, new_command, edef, defined, AreProper};
+ghost use Rattle.tk_store.specs.Bodies.{IsProperMacro, AreProperMacros};
+ghost use Rattle.tk_expand.specs.Expand.{stream};
+ghost use Rattle.tk_expand.specs.Reading.{read};
+ghost use Rattle.tk_define.specs.Definitions.{stands_for, def, new_command, edef, defined};
 
-use crate::body::body;
 use crate::head::{count, name, parameters};
-use crate::parts::{Wanted, expect, word};
+use crate::parts::{body, word};
 use crate::{Command, Definition};
-use std::alloc::{AllocError, Global};
+use std::alloc::Global;
 use tk_expand::{Input, Units, expand_all};
 use tk_store::{Body, Macro, Store};
-use tk_token::{Refusal, Tok};
+use tk_token::{Code, Refusal};
 
 /// Takes a definition from behind its command, whose faults are `MacroSyntax` at the first token that doesn't fit, and
-/// at the end of the list where it runs out before. The body of an `\edef` is expanded with the macros of the store, and
-/// each call is paid for; its faults there are `MacroArg` and `Budget` at the word of a call.
+/// at the end of the list where it runs out before: `\def\h#2{}` is refused at its `2`. The body of an `\edef` is
+/// expanded with the macros of the store, and each call is paid for; its faults there are `MacroArg` and `Budget` at the
+/// word of a call.
 pub fn read_definition(
     alloc: Global,
     command: Command,
@@ -25,8 +26,8 @@ pub fn read_definition(
     store: &Store,
     units: &mut Units,
 ) -> Result<Definition, Refusal>
-    ensures gives { Gives (λ definition. record { definition = definition; units = units.new.used; rest = input.new.rest }) result
-        (defined command units.old.budget store.now.top.macros units.old.used input.old) }
+    ensures gives { Gives (λ definition. record { definition = definition; stream = stream units.new.used input.new }) result
+        (defined command units.old.budget store.now.top.macros (stream units.old.used input.old)) }
     ensures end { OnOk result (input.new.end ≡ input.old.end) }
     ensures budget { units.new.budget ≡ units.old.budget }
     ensures used { OnOk result (units.old.used ≤ units.new.used) }
@@ -36,7 +37,7 @@ pub fn read_definition(
         < (units.old.budget - units.old.used) + length input.old.rest) }
 
     // The macro has at most nine arguments, and its body only their places.
-    ensures proper { AreProper store.now.top.macros → IfOk result (λ definition. IsProper definition.value) }
+    ensures proper { IfOk result (λ definition. IsProperMacro definition.value) }
 {
     match command {
         Command::Def => def(alloc, input),
@@ -48,29 +49,29 @@ pub fn read_definition(
 /// Takes what stands behind `\def`.
 #[tactic(auto, unfolding(crate::specs::Definitions::def))]
 fn def(alloc: Global, input: &mut Input) -> Result<Definition, Refusal>
-    ensures gives { Gives (λ definition. read definition input.new.rest) result (def input.old.end input.old.rest) }
+    ensures gives { Gives (λ definition. read definition input.new) result (def input.old) }
     ensures end { OnOk result (input.new.end ≡ input.old.end) }
     ensures shorter { OnOk result (length input.new.rest < length input.old.rest) }
-    ensures proper { IfOk result (λ definition. IsProper definition.value) }
+    ensures proper { IfOk result (λ definition. IsProperMacro definition.value) }
 {
     let word = word(input)?;
     let args = parameters(input)?;
     let body = body(alloc, args, input)?;
-    Ok(stands_for(word, args, body)?)
+    Ok(stands_for(word, args, body))
 }
 
 /// Takes what stands behind `\newcommand`.
 #[tactic(auto, unfolding(crate::specs::Definitions::new_command))]
 fn new_command(alloc: Global, input: &mut Input) -> Result<Definition, Refusal>
-    ensures gives { Gives (λ definition. read definition input.new.rest) result (new_command input.old.end input.old.rest) }
+    ensures gives { Gives (λ definition. read definition input.new) result (new_command input.old) }
     ensures end { OnOk result (input.new.end ≡ input.old.end) }
     ensures shorter { OnOk result (length input.new.rest < length input.old.rest) }
-    ensures proper { IfOk result (λ definition. IsProper definition.value) }
+    ensures proper { IfOk result (λ definition. IsProperMacro definition.value) }
 {
     let word = name(input)?;
     let args = count(input)?;
     let body = body(alloc, args, input)?;
-    Ok(stands_for(word, args, body)?)
+    Ok(stands_for(word, args, body))
 }
 
 /// Takes what stands behind `\edef`, and expands its body.
@@ -81,30 +82,36 @@ fn edef(
     store: &Store,
     units: &mut Units,
 ) -> Result<Definition, Refusal>
-    ensures gives { Gives (λ definition. record { definition = definition; units = units.new.used; rest = input.new.rest }) result
-        (edef units.old.budget store.now.top.macros units.old.used input.old.end input.old.rest) }
+    ensures gives { Gives (λ definition. record { definition = definition; stream = stream units.new.used input.new }) result
+        (edef units.old.budget store.now.top.macros (stream units.old.used input.old)) }
     ensures end { OnOk result (input.new.end ≡ input.old.end) }
     ensures budget { units.new.budget ≡ units.old.budget }
     ensures used { OnOk result (units.old.used ≤ units.new.used) }
     ensures shorter { OnOk result (length input.new.rest < length input.old.rest) }
-    ensures proper { AreProper store.now.top.macros → IfOk result (λ definition. IsProper definition.value) }
+    ensures proper { IfOk result (λ definition. IsProperMacro definition.value) }
 {
     let word = word(input)?;
-    expect(input, Wanted::Open)?;
+    input.expect_open(Code::MacroSyntax)?;
     let written = body(alloc, 0, input)?;
-    let body = expand_all(alloc, &written, store, units)?;
-    Ok(stands_for(word, 0, body)?)
+    keeps_proper_macros(store);
+    let written = Vec::from_slice(alloc, written.as_slice())?;
+    let text = expand_all(alloc, written, store, units)?;
+    Ok(stands_for(word, 0, Body::from_vec(text)?))
+}
+
+/// All macros of a store are proper, as it says of them whichever word is looked up.
+fn keeps_proper_macros(store: &Store)
+    ensures { AreProperMacros store.now.top.macros }
+{
+    store.get_macro(0);
 }
 
 /// A word stands for a body with so many arguments.
-fn stands_for(word: u32, args: u8, body: Vec<Tok>) -> Result<Definition, AllocError>
-    ensures { IfOk result (λ definition. definition ≡ stands_for word args body.items) }
+fn stands_for(word: u32, args: u8, body: Body) -> Definition
+    ensures { result ≡ stands_for word args body }
 {
-    Ok(Definition {
+    Definition {
         word,
-        value: Macro {
-            args,
-            body: Body::from_vec(body)?,
-        },
-    })
+        value: Macro { args, body },
+    }
 }

@@ -1,12 +1,9 @@
 //! Definitions of macros: their forms, and how they are read.
 #![tactic(auto)]
 
-mod body;
 mod commands;
 mod head;
 mod parts;
-#[cfg(test)]
-mod tests;
 
 pub use commands::read_definition;
 use tk_store::Macro;
