@@ -1,4 +1,4 @@
-use Rattle.std.proofs.Common.{◌≡◌, ◌≤◌, ◌/◌, ◌∙◌, ap, arith, length}
+use Rattle.std.proofs.Common.{◌≤◌, ◌/◌, arith, length}
 use Rattle.std.specs.Fmt.{decimal}
 use Rattle.tk_num.proofs.Printed.{length-whole}
 use Rattle.tk_num.proofs.text.push_front.Goals as goal

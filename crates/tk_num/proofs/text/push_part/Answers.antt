@@ -1,5 +1,5 @@
-use Rattle.std.proofs.Common.{◌≡◌, ◌+◌, ◌<◌, ◌/◌, ◌++◌, ◌∷◌, [], length, arith, ap, ◌∙◌, lit<, subst, sym, ◌*◌, ◌%◌}
-use Rattle.tk_num.proofs.Knuth.{AtDigit, first_digit, next_digit, last_digit, digits_room, digit_is_small}
+use Rattle.std.proofs.Common.{arith, ◌∙◌, subst, sym, ◌*◌, ◌%◌}
+use Rattle.tk_num.proofs.Knuth.{AtDigit, first_digit, next_digit, last_digit, digits_room}
 use Rattle.tk_num.proofs.text.push_part.Goals as goal
 
 pub digits-init : goal.digits-init
