@@ -21,7 +21,9 @@ pub struct Point {
     pub y: Scaled,
 }
 
-/// A piece of a path. `Curve` has its two control points and its end.
+/// A piece of a path. A path that is drawn begins with a `Move`; each other piece starts where the one
+/// before ended, and `Close` goes back to the last `Move`. `Curve` has its two control points and its
+/// end.
 #[derive(Clone, Copy, Debug, PartialEq, Eq)]
 pub enum Seg {
     Move(Point),
@@ -38,14 +40,14 @@ pub struct Rgb {
     pub b: u8,
 }
 
-/// Which points are inside a path (SVG 1.1, section 11.3, `fill-rule`).
+/// Which points are inside a path (SVG 1.1, section 11.3, Fill Properties, `fill-rule`).
 #[derive(Clone, Copy, Debug, PartialEq, Eq)]
 pub enum Rule {
     NonZero,
     EvenOdd,
 }
 
-/// How an open line ends (SVG 1.1, section 11.4, `stroke-linecap`).
+/// How an open line ends (SVG 1.1, section 11.4, Stroke Properties, `stroke-linecap`).
 #[derive(Clone, Copy, Debug, PartialEq, Eq)]
 pub enum Cap {
     Butt,
@@ -53,7 +55,7 @@ pub enum Cap {
     Square,
 }
 
-/// How two lines meet (SVG 1.1, section 11.4, `stroke-linejoin`).
+/// How two lines meet (SVG 1.1, section 11.4, Stroke Properties, `stroke-linejoin`).
 #[derive(Clone, Copy, Debug, PartialEq, Eq)]
 pub enum Join {
     Miter,
@@ -69,7 +71,8 @@ pub struct Fill {
 }
 
 /// How a path is drawn. The width, the dashes and their phase are lengths, and `miter` is a ratio in
-/// 65536ths.
+/// 65536ths. In a drawing that is written no width is negative, and no miter limit is below 65536, that
+/// is, 1.
 #[derive(Debug, Drop)]
 pub struct Stroke {
     pub rgb: Rgb,
@@ -101,7 +104,8 @@ pub enum Item {
     Label(Label),
 }
 
-/// A box, in scaled points. A side may lie past the range of `Scaled`.
+/// A box, in scaled points. What `widen` makes has its left side at most at the right one, and its bottom
+/// at most at the top. A side may lie past the range of `Scaled`, by half of a width.
 #[derive(Clone, Copy, Debug, Default, PartialEq, Eq)]
 pub struct Frame {
     pub left: i64,

@@ -1,6 +1,6 @@
 ghost use Rattle.std.specs.Prelude.{pos, ◌≤ℤ◌};
 
-use crate::{Dashes, Frame, Item, Items, Point, Seg, Segs, Text, widen};
+use crate::{Dashes, Frame, Item, Items, Point, Seg, Segs, Text, half_width, widen};
 use std::process::Abort;
 use std::test::Fail;
 use tk_num::Scaled;
@@ -67,6 +67,8 @@ fn widens_by_all_points(rt: HostRuntime) -> Result<(), Fail> {
     assert_widens(&rt, None, &[], 9, None);
     assert_widens(&rt, given, &[Seg::Close], 9, given);
     assert_widens(&rt, given, &[], 9, given);
+    assert_eq!(rt; half_width(Scaled::new(26_214).ok_or("0.4pt")?), 13_107);
+    assert_eq!(rt; half_width(Scaled::new(26_215).ok_or("odd")?), 13_108);
     Ok(())
 }
 
@@ -87,11 +89,6 @@ fn keeps_what_is_pushed(rt: HostRuntime) -> Result<(), Fail> {
     let mut items = Items::new(rt.alloc());
     items.push(Item::Path(segs, None, None))?;
     assert_eq!(rt; items.as_slice().len(), 1);
-    Ok(())
-}
-
-#[test]
-fn copies_dashes(rt: HostRuntime) -> Result<(), Fail> {
     let lengths = [
         Scaled::new(0).ok_or("0")?,
         Scaled::new(196608).ok_or("3pt")?,

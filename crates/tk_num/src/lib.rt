@@ -15,9 +15,9 @@ mod unit;
 
 pub use angle::{cos, sin, tan};
 pub use arithmetic::{add, div, mul, root, root_is_floor, sub};
-pub use decimal::read_decimal;
+pub use decimal::{nearest_65536th, read_decimal};
 use std::marker::Model;
-pub use text::{print, print_tex, text_is_unique, text_reads_back};
+pub use text::{Digits, print, print_tex, push_text, text_is_unique, text_reads_back};
 pub use unit::{Unit, with_unit};
 
 /// The greatest absolute value of a `Scaled`.

@@ -1,12 +1,14 @@
 //! The text of a number.
 
-ghost use Rattle.std.specs.Prelude.{◌≡◌, ℤ, pos, List, ℕ, ◌+◌, ◌-◌, ◌/◌, ◌%◌, ◌^◌, unsigned_abs, decimal, ◌<◌, ◌≤◌, ◌++◌, ◌∷◌, if◌then◌else◌, nat_lt};
-ghost use Rattle.arrayvec.specs.ArrayString.{array_string_len};
+ghost use Rattle.std.specs.Prelude.{◌≡◌, ℤ, pos, List, ℕ, ◌+◌, ◌-◌, ◌/◌, ◌%◌, ◌^◌, unsigned_abs, decimal, ◌<◌, ◌≤◌, ◌++◌, ◌∷◌, if◌then◌else◌, nat_lt, length, IsUtf8};
+ghost use Rattle.arrayvec.specs.ArrayVec.{array_vec_len};
 ghost use Rattle.tk_num.specs.Number.{decimal_parts};
 ghost use Rattle.tk_num.specs.Text.{unsigned_text, places, IsTextOf, IsPointedTextOf, text_of, sign_text, pointed_text, part_text};
 
-use arrayvec::ArrayString;
-use itoa::Buffer;
+use arrayvec::{ArrayString, ArrayVec};
+
+/// The characters of numbers: room for two, and for what stands before and between them.
+pub type Digits = ArrayVec<u8, 48>;
 
 /// One whole, in 65536ths.
 const UNITY: u32 = 65536;
@@ -27,16 +29,17 @@ fn rounded(rest: u32, delta: u32) -> u32
 /// Puts the digits of a fraction of 65536ths at the end, as few as read back as it.
 ///
 /// This is the loop of TeX's `print_scaled` (Knuth, TeX: The Program, section 103).
-fn push_part(out: &mut ArrayString<24>, fraction: u32)
-    requires room { array_string_len out.old ≤ 19 }
+fn push_part(out: &mut Digits, fraction: u32)
+    requires room { array_vec_len out.old + 5 ≤ 48 }
     requires fraction { fraction < 65536 }
-    ensures { out.new.bytes ≡ out.old.bytes ++ part_text fraction }
+    ensures text { out.new.items ≡ out.old.items ++ part_text fraction }
+    ensures short { array_vec_len out.new ≤ array_vec_len out.old + 5 }
 {
     let mut rest = 10 * fraction + 5;
     let mut delta = 10;
     'digits: loop {
         rest = rounded(rest, delta);
-        out.push(char::from(b'0' + (rest / UNITY) as u8));
+        out.push(b'0' + (rest / UNITY) as u8);
         rest = 10 * (rest % UNITY);
         delta *= 10;
         if rest <= delta {
@@ -45,28 +48,71 @@ fn push_part(out: &mut ArrayString<24>, fraction: u32)
     }
 }
 
-/// The whole part and the 65536ths of the absolute value.
-fn parts_of_size(sp: i64) -> (u64, u32)
-    ensures whole { result.0 ≡ unsigned_abs sp / 65536 }
-    ensures part { result.1 ≡ unsigned_abs sp % 65536 }
-    ensures small { result.0 ≤ 140737488355328 }
+/// Puts the digits of a whole number at the end.
+fn push_whole(out: &mut Digits, whole: u64)
+    requires room { array_vec_len out.old + length (decimal whole) ≤ 48 }
+    ensures text { out.new.items ≡ out.old.items ++ decimal whole }
+    ensures length { array_vec_len out.new ≡ array_vec_len out.old + length (decimal whole) }
 {
-    let size = sp.unsigned_abs();
-    (size / 65536, (size % 65536) as u32)
+    if whole < 10 {
+        out.push(b'0' + whole as u8);
+        return;
+    }
+    push_whole(out, whole / 10);
+    out.push(b'0' + (whole % 10) as u8);
 }
 
-/// A text that begins with the sign and the whole part of a number.
-fn begun(sp: i64, whole: u64) -> ArrayString<24>
-    requires { whole ≤ 140737488355328 }
-    ensures text { result.bytes ≡ sign_text sp ++ decimal whole }
-    ensures room { array_string_len result ≤ 16 }
+/// Puts a minus before a negative number at the end.
+fn push_sign(out: &mut Digits, sp: i64)
+    requires room { array_vec_len out.old + 1 ≤ 48 }
+    ensures text { out.new.items ≡ out.old.items ++ sign_text sp }
+    ensures short { array_vec_len out.new ≤ array_vec_len out.old + 1 }
+{
+    if sp < 0 {
+        out.push(b'-');
+    }
+}
+
+/// Puts the sign and the whole part of a number at the end.
+fn push_front(out: &mut Digits, sp: i64)
+    requires room { array_vec_len out.old + 16 ≤ 48 }
+    ensures text { out.new.items ≡ out.old.items ++ (sign_text sp ++ decimal (unsigned_abs sp / 65536)) }
+    ensures short { array_vec_len out.new ≤ array_vec_len out.old + 16 }
+{
+    push_sign(out, sp);
+    push_whole(out, sp.unsigned_abs() / 65536);
+}
+
+/// The 65536ths of the absolute value that come to no whole.
+fn part_of_size(sp: i64) -> u32
+    ensures part { result ≡ unsigned_abs sp % 65536 }
+    ensures small { result < 65536 }
+{
+    (sp.unsigned_abs() % 65536) as u32
+}
+
+/// Puts the text of a number at the end, which is what `print` gives.
+pub fn push_text(out: &mut Digits, sp: i64)
+    requires room { array_vec_len out.old + 22 ≤ 48 }
+    ensures text { out.new.items ≡ out.old.items ++ text_of sp }
+    ensures short { array_vec_len out.new ≤ array_vec_len out.old + 22 }
+{
+    push_front(out, sp);
+    let fraction = part_of_size(sp);
+    if fraction != 0 {
+        out.push(b'.');
+        push_part(out, fraction);
+    }
+}
+
+/// These characters.
+fn written(characters: &Digits) -> ArrayString<24>
+    requires utf8 { IsUtf8 characters.now.items }
+    requires short { array_vec_len characters.now ≤ 24 }
+    ensures { result.bytes ≡ characters.now.items }
 {
     let mut out = ArrayString::new();
-    if sp < 0 {
-        out.push('-');
-    }
-    let mut buffer = Buffer::new();
-    out.push_str(buffer.format(whole));
+    out.push_str(str::from_utf8(characters.as_slice()).unwrap());
     out
 }
 
@@ -76,13 +122,9 @@ pub fn print(sp: i64) -> ArrayString<24>
     ensures text { result.bytes ≡ text_of sp }
     ensures chosen { IsTextOf sp result.bytes }
 {
-    let (whole, fraction) = parts_of_size(sp);
-    let mut out = begun(sp, whole);
-    if fraction != 0 {
-        out.push('.');
-        push_part(&mut out, fraction);
-    }
-    out
+    let mut out: Digits = ArrayVec::new();
+    push_text(&mut out, sp);
+    written(&out)
 }
 
 /// The text that TeX prints of a number of 65536ths of a point: as `print`, with `.0` where it ends so.
@@ -90,11 +132,11 @@ pub fn print_tex(sp: i64) -> ArrayString<24>
     ensures text { result.bytes ≡ pointed_text sp }
     ensures chosen { IsPointedTextOf sp result.bytes }
 {
-    let (whole, fraction) = parts_of_size(sp);
-    let mut out = begun(sp, whole);
-    out.push('.');
-    push_part(&mut out, fraction);
-    out
+    let mut out: Digits = ArrayVec::new();
+    push_front(&mut out, sp);
+    out.push(b'.');
+    push_part(&mut out, part_of_size(sp));
+    written(&out)
 }
 
 /// There is one text of a number, and one that TeX prints.

@@ -50,7 +50,7 @@ fn in_font_unit(whole: i64, frac: i64, unit: Scaled) -> i64
 }
 
 /// The length of `whole` and `frac` 65536ths in a unit, in 65536ths of a point.
-fn length_of(whole: i64, frac: i64, unit: Unit, em: Scaled, ex: Scaled) -> i64
+fn length_in_unit(whole: i64, frac: i64, unit: Unit, em: Scaled, ex: Scaled) -> i64
     requires whole { IsWhole whole }
     requires frac { IsFraction frac }
     ensures { result ≡ length_in unit (65536 * unsigned_abs whole + unsigned_abs frac) em ex }
@@ -86,5 +86,5 @@ pub fn with_unit(
     requires frac { IsFraction frac }
     ensures { result ≡ scaled (length_in unit (65536 * unsigned_abs whole + unsigned_abs frac) em ex) }
 {
-    in_range(length_of(whole, frac, unit, em, ex))
+    in_range(length_in_unit(whole, frac, unit, em, ex))
 }

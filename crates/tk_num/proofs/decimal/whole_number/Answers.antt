@@ -1,7 +1,7 @@
 use Rattle.std.proofs.Common.{◌≡◌, ◌+◌, get_or, arith, sym, ◌∙◌, true}
 use Rattle.std.specs.Char.{is_ascii_digit}
 use Rattle.tk_num.proofs.Digits.{all_more, value_more, value_bound}
-use Rattle.tk_num.proofs.decimal.whole_of.Goals as goal
+use Rattle.tk_num.proofs.decimal.whole_number.Goals as goal
 
 pub returns-then-value-gt-MOST_WHOLE : goal.returns-then-value-gt-MOST_WHOLE
 returns-then-value-gt-MOST_WHOLE c =

@@ -1,6 +1,6 @@
 use Rattle.std.proofs.Common.{◌≡◌, ◌<◌, ◌^◌, take}
 use Rattle.std.specs.Str.Parse.{digits_value}
-use Rattle.tk_num.proofs.decimal.value_of.Given as goal
+use Rattle.tk_num.proofs.decimal.short_number.Given as goal
 
 -- the number of the digits so far
 abbrev pub invariant-loop-digit : goal.invariant-loop-digit

@@ -2,7 +2,7 @@ use Rattle.std.proofs.Common.{◌≡◌, ◌≤◌, true, take}
 use Rattle.std.specs.List.{list_all}
 use Rattle.std.specs.Char.{is_ascii_digit}
 use Rattle.std.specs.Str.Parse.{digits_value}
-use Rattle.tk_num.proofs.decimal.whole_of.Given as goal
+use Rattle.tk_num.proofs.decimal.whole_number.Given as goal
 
 -- the digits so far are digits, and their number is not too great
 abbrev pub invariant-loop-digit : goal.invariant-loop-digit

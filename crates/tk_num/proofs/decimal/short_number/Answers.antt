@@ -1,6 +1,6 @@
 use Rattle.std.proofs.Common.{arith}
 use Rattle.tk_num.proofs.Digits.{digit_at, bounds_at, value_more, below_pow_more, pow_17}
-use Rattle.tk_num.proofs.decimal.value_of.Goals as goal
+use Rattle.tk_num.proofs.decimal.short_number.Goals as goal
 
 pub overflow_mul-value : goal.overflow_mul-value
 overflow_mul-value c = let p = pow_17 c.loop-digit.digit-index (omega arith) in omega (arith, p, c.loop-digit.invariant.below)
