@@ -23,7 +23,7 @@ abbrev pub digit_of : Kind → Option ℕ
 digit_of (Char c) = if is_ascii_digit c then Some (digit_value c) else None
 digit_of _ = None
 
--- A token that stands for itself. A `#` doesn't, and neither does the place of an argument, which no source has.
+-- a token that stands for itself, as all do but a `#` and the place of an argument, which no source has
 abbrev pub itself : Kind → Tok → Answer Tok
 itself Param t = misfit t.at
 itself (Arg n) t = misfit t.at
@@ -40,8 +40,9 @@ hash_before args Param at = Ok (record { kind = Param; at = at })
 hash_before args (Char c) at = argument_at args (digit_of (Char c)) at
 hash_before args _ at = misfit at
 
--- The body of a macro with so many arguments, as it is written: with one argument `(#1)` is `(`, the place of the argument
--- and `)`, and `##1` is `#` and `1`; `#2`, `#x` and a `#` at the end don't fit.
+-- With one argument `(#1)` is `(`, the place of the argument and `)`, and `##1` is `#` and `1`; `#2`, `#x` and a `#` at
+-- the end don't fit.
+-- the body of a macro with so many arguments, as it is written: `#1` is an argument's place, and `##` is `#`
 unfoldable pub body_of : ℕ → List Tok → Answer (List Tok)
 body_of args [] = Ok []
 body_of args (t ∷ []) = do

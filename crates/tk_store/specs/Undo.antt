@@ -1,5 +1,7 @@
--- How a store keeps its levels: the entries of the last one, and what each setting replaced, the newest first.
-use Rattle.std.specs.Prelude.{ℕ, ◌-◌, ◌≤◌, List, [], ◌∷◌, length, take, drop}
+-- How a store keeps its levels: the entries of the last one, and what each setting replaced, the newest first. So after
+-- `\def\a{x}`, a level that opens and `\def\a{y}`, the entry of `\a` has `y`, and what was replaced is `x` at its place.
+use Rattle.std.specs.Prelude.{◌≡◌, ℕ, ◌-◌, ◌≤◌, List, [], ◌∷◌, length, take, drop}
+use Rattle.std.specs.Ordering.{nat_cmp}
 use Rattle.std.specs.FinMap as map
 use Rattle.indexmap.specs.IndexMap.{set_value_at}
 use Rattle.tk_store.specs.declared.Macro.{Macro}
@@ -14,6 +16,7 @@ use Rattle.tk_store.specs.Levels.{Macros, Level, Levels}
 pub record Entries : Type 0 where
   pub macros : List (ℕ × Macro)
 
+-- nothing is set
 abbrev pub no_entries : Entries
 no_entries = record { macros = [] }
 
@@ -28,10 +31,18 @@ abbrev pub before : Saved → Entries → Entries
 before (Replaced place old) entries = record entries { macros = set_value_at entries.macros place old }
 before NoMacro entries = record entries { macros = take (length entries.macros - 1) entries.macros }
 
--- the entries of before some settings
+-- the entries of before some settings, the newest first
 unfoldable pub before_all : List Saved → Entries → Entries
 before_all [] entries = entries
 before_all (saved ∷ older) entries = before_all older (before saved entries)
+
+-- the settings that were made since there were so many
+abbrev pub made_since : ℕ → List Saved → List Saved
+made_since mark saved = take (length saved - mark) saved
+
+-- the settings that were made until then
+abbrev pub made_until : ℕ → List Saved → List Saved
+made_until mark saved = drop (length saved - mark) saved
 
 -- what was replaced is proper
 abbrev pub IsProperSaved : Saved → Type 0
@@ -40,7 +51,7 @@ IsProperSaved NoMacro = Unit {0}
 
 -- ---- levels
 
--- how many of so many settings were made at the last level, where each mark says how many there were before a level
+-- of so many settings how many were made at the last level; a mark says how many there were where a level was opened
 abbrev pub settings_at : ℕ → List ℕ → ℕ
 settings_at count [] = count
 settings_at count (mark ∷ marks) = count - mark
@@ -53,9 +64,8 @@ level_of entries settings = record { macros = macros_of entries; settings = sett
 unfoldable pub outer_of : List Saved → List ℕ → Entries → List Level
 outer_of saved [] entries = []
 outer_of saved (mark ∷ marks) entries =
-    let made = length saved - mark in
-    let older = drop made saved in
-    let outer = before_all (take made saved) entries in
+    let older = made_until mark saved in
+    let outer = before_all (made_since mark saved) entries in
     level_of outer (settings_at (length older) marks) ∷ outer_of older marks outer
 
 -- all levels
@@ -65,7 +75,7 @@ levels_of saved marks entries = record {
   top = level_of entries (settings_at (length saved) marks);
 }
 
--- no mark is above so many settings, nor above the one that came after it
+-- no mark is above so many settings, nor above the mark that came after it
 unfoldable pub AreMarks : ℕ → List ℕ → Type 0
 AreMarks count [] = Unit {0}
 AreMarks count (mark ∷ marks) = (mark ≤ count) × AreMarks mark marks

@@ -1,12 +1,12 @@
 //! Macros in levels.
 
-ghost use Rattle.std.specs.Prelude.{◌≡◌, ◌+◌, ◌-◌, ◌∷◌, ◌<◌, ◌≤◌, length, reverse, take, drop, IfOk, IfSome, OnOk, OnErr};
+ghost use Rattle.std.specs.Prelude.{◌≡◌, ◌+◌, ◌∷◌, ◌<◌, ◌≤◌, length, reverse, IfOk, IfSome, OnOk, OnErr};
 ghost use Rattle.std.specs.List.{AllByRecursion};
 ghost use Rattle.std.specs.Option.{option_copied};
 ghost use Rattle.std.specs.FinMap as map;
 ghost use Rattle.tk_store.specs.Bodies.{IsProperMacro, AreProperMacros};
 ghost use Rattle.tk_store.specs.Levels.{new_levels, opened, SetsMacro};
-ghost use Rattle.tk_store.specs.Undo.{before_all, IsProperSaved};
+ghost use Rattle.tk_store.specs.Undo.{before_all, made_since, made_until, IsProperSaved};
 
 use crate::Macro;
 use crate::steps::Steps;
@@ -132,15 +132,14 @@ impl Store {
 fn undo<L: Ledger>(tables: &mut Tables, saved: &mut Vec<Saved>, mark: usize, steps: &mut Steps<L>)
     requires mark { mark ≤ length (reverse saved.old.items) }
     requires proper { AllByRecursion IsProperSaved (reverse saved.old.items) }
-    ensures tables { tables.new ≡ before_all (take (length (reverse saved.old.items) - mark) (reverse saved.old.items)) tables.old }
-    ensures saved { reverse saved.new.items ≡ drop (length (reverse saved.old.items) - mark) (reverse saved.old.items) }
+    ensures tables { tables.new ≡ before_all (made_since mark (reverse saved.old.items)) tables.old }
+    ensures saved { reverse saved.new.items ≡ made_until mark (reverse saved.old.items) }
     ensures proper { AllByRecursion IsProperSaved (reverse saved.new.items) }
     ensures cost { steps.new + mark ≡ steps.old + length (reverse saved.old.items) }
 {
     while saved.len() > mark {
         if let Some(newest) = saved.pop() {
-            tables.put_back(newest);
-            steps.tick();
+            tables.put_back(newest, steps);
         }
     }
 }

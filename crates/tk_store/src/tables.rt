@@ -1,15 +1,17 @@
 //! What the words of the current level stand for, and what a setting there replaced.
 
-ghost use Rattle.std.specs.Prelude.{◌≡◌, IfOk, IfSome, OnOk, OnErr};
+ghost use Rattle.std.specs.Prelude.{◌≡◌, ◌+◌, IfOk, IfSome, OnOk, OnErr};
 ghost use Rattle.std.specs.Option.{option_copied};
 ghost use Rattle.std.specs.FinMap as map;
 ghost use Rattle.tk_store.specs.Bodies.{IsProperMacro, AreProperMacros};
 ghost use Rattle.tk_store.specs.Undo.{no_entries, macros_of, before, IsProperSaved};
 
 use crate::Macro;
+use crate::steps::Steps;
 use indexmap::IndexMap;
 use std::alloc::{AllocError, Global};
 use std::marker::Model;
+use std::sync::ledger::Ledger;
 
 /// What a setting replaced. With it the setting is undone, once all later ones are.
 #[derive(Drop)]
@@ -70,11 +72,13 @@ impl Tables {
         })
     }
 
-    /// Undoes a setting.
-    pub(crate) fn put_back(&mut self, saved: Saved)
+    /// Undoes a setting, which is a step.
+    pub(crate) fn put_back<L: Ledger>(&mut self, saved: Saved, steps: &mut Steps<L>)
         requires { IsProperSaved saved }
-        ensures { self.new ≡ before saved self.old }
+        ensures entries { self.new ≡ before saved self.old }
+        ensures cost { steps.new ≡ steps.old + 1 }
     {
+        steps.tick();
         match saved {
             Saved::Macro(place, old) => {
                 if let Some(value) = self.macros.get_index_mut(place) {

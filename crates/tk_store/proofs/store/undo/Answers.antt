@@ -16,17 +16,17 @@ loop-saved-preserved-in-Some g c =
     omega (arith, count, c.loop-saved-test.true, c.len.ensures, c.loop-saved.saved.ok.0, length-reverse c.loop-saved.saved.items) in
     record {
       enough = enough;
-      back = one_undone (reverse c.loop-saved.saved.items) (reverse c.pop.new.self.items) c.in-Some.newest c.args.mark c.loop-saved.tables c.put_back.new.self are enough c.put_back.ensures ∙ c.loop-saved.invariant.back;
+      back = one_undone (reverse c.loop-saved.saved.items) (reverse c.pop.new.self.items) c.in-Some.newest c.args.mark are enough c.loop-saved.tables c.put_back.new.self c.put_back.ensures.entries ∙ c.loop-saved.invariant.back;
       left = one_dropped (reverse c.loop-saved.saved.items) (reverse c.pop.new.self.items) c.in-Some.newest c.args.mark are enough ∙ c.loop-saved.invariant.left;
       proper = (subst (AllByRecursion IsProperSaved) are c.loop-saved.invariant.proper).1;
-      cost = omega (arith, count, c.loop-saved.invariant.cost, c.tick.ensures);
+      cost = omega (arith, count, c.loop-saved.invariant.cost, c.put_back.ensures.cost);
     }
 
 few : (g : Over) (c : After-loop-saved g) → length (reverse c.loop-saved.saved.items) ≤ c.args.mark
 few g c = omega (arith, c.loop-saved-test.false, c.len.ensures, c.loop-saved.saved.ok.0, length-reverse c.loop-saved.saved.items)
 
 pub returns-clause-tables : goal.returns-clause-tables
-returns-clause-tables g c = sym (none_undone (reverse c.loop-saved.saved.items) c.args.mark c.loop-saved.tables (few g c)) ∙ c.loop-saved.invariant.back
+returns-clause-tables g c = sym (none_undone (reverse c.loop-saved.saved.items) c.args.mark (few g c) c.loop-saved.tables) ∙ c.loop-saved.invariant.back
 
 pub returns-clause-saved : goal.returns-clause-saved
 returns-clause-saved g c = sym (none_dropped (reverse c.loop-saved.saved.items) c.args.mark (few g c)) ∙ c.loop-saved.invariant.left

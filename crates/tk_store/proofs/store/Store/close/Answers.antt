@@ -1,36 +1,35 @@
-use Rattle.std.proofs.Common.{◌≡◌, ◌≤◌, ◌-◌, ◌<◌, [], ◌∷◌, length, ap, sym, ◌∙◌, arith}
+use Rattle.std.proofs.Common.{◌≡◌, ◌≤◌, ◌-◌, ◌<◌, ℕ, List, [], ◌∷◌, length, ap, sym, ◌∙◌, arith}
 use Rattle.std.specs.Prelude.{reverse}
 use Rattle.std.proofs.lemmas.List.{length-reverse, reverse-append}
 use Rattle.tk_store.specs.Levels.{Levels}
 use Rattle.tk_store.proofs.Undoing.{outer_length, close_is, mark_within, marks_close, settings_are}
 use Rattle.tk_store.proofs.store.Store.close.Given.{Over}
 use Rattle.tk_store.proofs.store.Store.close.Goals as goal
-use Rattle.tk_store.proofs.store.Store.close.Goals.{In-Some, After-undo}
+use Rattle.tk_store.proofs.store.Store.close.Goals.{After-undo}
 
 pub undo-requires-clause-mark : goal.undo-requires-clause-mark
 undo-requires-clause-mark g c =
-    (mark_within (length (reverse c.self.inside.saved.items)) c.in-Some.mark (reverse c.pop.new.self.items) (reverse c.self.inside.marks.items)
-    (ap reverse c.in-Some.ensures.items ∙ reverse-append c.pop.new.self.items (c.in-Some.mark ∷ [])) c.self.invariant.0).0
+    let are : reverse c.self.inside.marks.items ≡ c.in-Some.mark ∷ reverse c.pop.new.self.items =
+    ap reverse c.in-Some.ensures.items ∙ reverse-append c.pop.new.self.items (c.in-Some.mark ∷ []) in
+    (mark_within (reverse c.self.inside.saved.items) [] c.in-Some.mark _ _ are _ c.self.invariant.0).0
 
 marks_are : (g : Over) (c : After-undo g) → reverse c.self.inside.marks.items ≡ c.in-Some.mark ∷ reverse c.pop.new.self.items
 marks_are g c = ap reverse c.in-Some.ensures.items ∙ reverse-append c.pop.new.self.items (c.in-Some.mark ∷ [])
 
+within : (g : Over) (c : After-undo g) → c.in-Some.mark ≤ length (reverse c.self.inside.saved.items)
+within g c = (mark_within (reverse c.self.inside.saved.items) [] c.in-Some.mark _ _ (marks_are g c) _ c.self.invariant.0).0
+
 pub invariant_of-self : goal.invariant_of-self
 invariant_of-self g c = (
-  marks_close (reverse c.self.inside.saved.items) (reverse c.undo.new.saved.items) c.in-Some.mark (reverse c.pop.new.self.items) (reverse c.self.inside.marks.items)
-      (marks_are g c) c.undo.ensures.saved c.self.invariant.0,
+  marks_close (reverse c.self.inside.saved.items) (reverse c.undo.new.saved.items) c.in-Some.mark _ _ (marks_are g c) c.undo.ensures.saved c.self.invariant.0,
   c.undo.ensures.proper,
 )
 
 pub returns-in-Some-clause-outer : goal.returns-in-Some-clause-outer
 returns-in-Some-clause-outer g c =
     ap (λ (l : Levels). l.outer) (sym c.self.view_is)
-    ∙ close_is (reverse c.self.inside.saved.items) (reverse c.undo.new.saved.items) c.in-Some.mark (reverse c.pop.new.self.items) (reverse c.self.inside.marks.items)
-    c.self.inside.tables c.undo.new.tables (marks_are g c) c.undo.ensures.tables c.undo.ensures.saved
-
-within : (g : Over) (c : After-undo g) → c.in-Some.mark ≤ length (reverse c.self.inside.saved.items)
-within g c =
-    (mark_within (length (reverse c.self.inside.saved.items)) c.in-Some.mark (reverse c.pop.new.self.items) (reverse c.self.inside.marks.items) (marks_are g c) c.self.invariant.0).0
+    ∙ close_is (reverse c.self.inside.saved.items) (reverse c.undo.new.saved.items) c.in-Some.mark _ _ (marks_are g c)
+    c.self.inside.tables c.undo.new.tables c.undo.ensures.tables c.undo.ensures.saved
 
 pub returns-in-Some-clause-low : goal.returns-in-Some-clause-low
 returns-in-Some-clause-low g c = omega (arith, within g c, c.undo.ensures.cost)
@@ -39,7 +38,7 @@ pub returns-in-Some-clause-high : goal.returns-in-Some-clause-high
 returns-in-Some-clause-high g c =
     let made : c.args.self.now.top.settings ≡ length (reverse c.self.inside.saved.items) - c.in-Some.mark =
     ap (λ (l : Levels). l.top.settings) (sym c.self.view_is)
-    ∙ settings_are (length (reverse c.self.inside.saved.items)) c.in-Some.mark (reverse c.pop.new.self.items) (reverse c.self.inside.marks.items) (marks_are g c) in
+    ∙ settings_are (reverse c.self.inside.saved.items) [] c.in-Some.mark _ _ (marks_are g c) (length (reverse c.self.inside.saved.items)) in
     omega (arith, within g c, made, c.undo.ensures.cost)
 
 pub returns-in_default-clause-outer : goal.returns-in_default-clause-outer

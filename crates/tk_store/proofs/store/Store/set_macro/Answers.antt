@@ -1,4 +1,4 @@
-use Rattle.std.proofs.Common.{◌≡◌, List, [], ◌∷◌, length, ap, sym, subst, ◌∙◌, arith}
+use Rattle.std.proofs.Common.{◌≡◌, ℕ, List, [], ◌∷◌, length, ap, sym, subst, ◌∙◌, arith}
 use Rattle.std.specs.Prelude.{reverse}
 use Rattle.std.specs.List.{AllByRecursion}
 use Rattle.std.proofs.lemmas.List.{reverse-append, nil_from_length}
@@ -12,23 +12,29 @@ use Rattle.tk_store.proofs.store.Store.set_macro.Goals.{In_ok-push}
 pub returns-then-is_empty-clause-ok : goal.returns-then-is_empty-clause-ok
 returns-then-is_empty-clause-ok c =
     let none : length c.self.inside.marks.items ≡ 0 = grind (arith, c.is_empty.ensures, c.if-is_empty.true) in
-    subst (λ (l : Levels). SetsMacro l (levels_of (reverse c.reserve.new.self.items) (reverse c.self.inside.marks.items) c.set_macro.new.self) c.args.name c.args.value) c.self.view_is
-    (set_at_bottom (reverse c.self.inside.saved.items) (reverse c.reserve.new.self.items) (reverse c.self.inside.marks.items) c.self.inside.tables c.set_macro.new.self c.args.name c.args.value
+    let new : Levels = levels_of (reverse c.reserve.new.self.items) (reverse c.self.inside.marks.items) c.set_macro.new.self in
+    subst (λ (old : Levels). SetsMacro old new c.args.name c.args.value) c.self.view_is
+    (set_at_bottom (reverse c.self.inside.saved.items) (reverse c.reserve.new.self.items) (reverse c.self.inside.marks.items)
+    c.self.inside.tables c.set_macro.new.self c.args.name c.args.value
     (ap reverse c.reserve.ensures.items) (ap reverse (nil_from_length _ none)) c.in_ok-replaced.ensures.macros)
 
 saved_are : (c : In_ok-push) → reverse c.push.new.self.items ≡ c.in_ok-replaced.replaced ∷ reverse c.self.inside.saved.items
 saved_are c =
-    ap reverse c.in_ok-push.ensures.items ∙ reverse-append c.reserve.new.self.items (c.in_ok-replaced.replaced ∷ [])
+    ap reverse c.in_ok-push.ensures.items
+    ∙ reverse-append c.reserve.new.self.items (c.in_ok-replaced.replaced ∷ [])
     ∙ ap (λ (l : List Saved). c.in_ok-replaced.replaced ∷ reverse l) c.reserve.ensures.items
 
 pub invariant_of-self-2 : goal.invariant_of-self-2
 invariant_of-self-2 c = (
-  marks_set (reverse c.self.inside.saved.items) (reverse c.push.new.self.items) c.in_ok-replaced.replaced (reverse c.self.inside.marks.items) (saved_are c) c.self.invariant.0,
+  marks_set (reverse c.self.inside.saved.items) (reverse c.push.new.self.items) (reverse c.self.inside.marks.items)
+      c.self.inside.tables c.set_macro.new.self c.in_ok-replaced.replaced (saved_are c) c.self.invariant.0,
   subst (AllByRecursion IsProperSaved) (sym (saved_are c)) (c.in_ok-replaced.ensures.proper, c.self.invariant.1),
 )
 
 pub returns-clause-ok : goal.returns-clause-ok
 returns-clause-ok c =
-    subst (λ (l : Levels). SetsMacro l (levels_of (reverse c.push.new.self.items) (reverse c.self.inside.marks.items) c.set_macro.new.self) c.args.name c.args.value) c.self.view_is
-    (set_at_level (reverse c.self.inside.saved.items) (reverse c.push.new.self.items) (reverse c.self.inside.marks.items) c.self.inside.tables c.set_macro.new.self c.in_ok-replaced.replaced
-    c.args.name c.args.value (saved_are c) c.in_ok-replaced.ensures.undo c.in_ok-replaced.ensures.macros c.self.invariant.0)
+    let new : Levels = levels_of (reverse c.push.new.self.items) (reverse c.self.inside.marks.items) c.set_macro.new.self in
+    subst (λ (old : Levels). SetsMacro old new c.args.name c.args.value) c.self.view_is
+    (set_at_level (reverse c.self.inside.saved.items) (reverse c.push.new.self.items) (reverse c.self.inside.marks.items)
+    c.self.inside.tables c.set_macro.new.self c.in_ok-replaced.replaced c.args.name c.args.value
+    (saved_are c) c.in_ok-replaced.ensures.undo c.in_ok-replaced.ensures.macros c.self.invariant.0)
