@@ -6,29 +6,30 @@ ghost use Rattle.tk_expr.specs.declared.machine.Frame.TheVariants.{Else};
 ghost use Rattle.tk_expr.specs.Machine as spec;
 
 use crate::machine::Frame;
-use crate::values::{Found, chosen, number};
+use crate::values::{Found, chosen};
 use std::marker::Model;
 use tk_token::{Code, Fault};
 
 /// The parentheses and `?` that may be open.
 const MOST_FRAMES: usize = 64;
 
-/// What is open, innermost first: at most 64 frames. It takes no memory.
+/// What is open, innermost first: at most 64 frames. It takes no memory. The stack is made with the first one, since
+/// most expressions open nothing.
 #[derive(Drop)]
 pub struct Frames {
-    stack: [Frame; 64],
+    stack: Option<[Frame; 64]>,
     len: usize,
 }
 
 impl Model for Frames {
-    ghost use Rattle.std.specs.Prelude.{List, reverse, take, ◌≤◌};
+    ghost use Rattle.std.specs.Prelude.{◌≡◌, List, [], length, reverse, take, unwrap_or, ◌≤◌, IfSome, IfNone};
     ghost use Rattle.tk_expr.specs.declared.machine.Frame.{Frame};
 
     ghost Value = { List Frame };
 
-    ghost view = { λ f. reverse (take f.len f.stack) };
+    ghost view = { λ f. reverse (take f.len (unwrap_or f.stack [])) };
 
-    ghost invariant = { λ f. f.len ≤ 64 };
+    ghost invariant = { λ f. (f.len ≤ 64) × IfSome f.stack (λ stack. length stack ≡ 64) × IfNone f.stack (f.len ≡ 0) };
 }
 
 impl Frames {
@@ -37,7 +38,7 @@ impl Frames {
         ensures { result ≡ [] }
     {
         Frames {
-            stack: [Frame::Then(Ok(number(0))); 64],
+            stack: None,
             len: 0,
         }
     }
@@ -55,9 +56,25 @@ impl Frames {
                 at,
             });
         }
-        self.stack[self.len] = frame;
+        match &mut self.stack {
+            Some(stack) => stack[self.len] = frame,
+            None => self.stack = Some([frame; MOST_FRAMES]),
+        }
         self.len += 1;
         Ok(())
+    }
+
+    /// The innermost one.
+    fn top(&self) -> Option<Frame>
+        ensures { MatchOption result (self.now ≡ []) (λ frame. self.now ≡ frame ∷ drop 1 self.now) }
+    {
+        if self.len == 0 {
+            return None;
+        }
+        match &self.stack {
+            Some(stack) => Some(stack[self.len - 1]),
+            None => None,
+        }
     }
 
     /// Takes the innermost one off.
@@ -69,18 +86,18 @@ impl Frames {
             return None;
         }
         self.len -= 1;
-        Some(self.stack[self.len])
+        match &self.stack {
+            Some(stack) => Some(stack[self.len]),
+            None => None,
+        }
     }
 
     /// The condition and the first value of the innermost one, where it is a `?` that has its `:`.
     fn choice(&self) -> Option<(Found, Found)>
         ensures { MatchOption result (spec.is_choice self.now ≡ false) (λ found. self.now ≡ Else found.0 found.1 ∷ drop 1 self.now) }
     {
-        if self.len == 0 {
-            return None;
-        }
-        match self.stack[self.len - 1] {
-            Frame::Else(condition, first) => Some((condition, first)),
+        match self.top() {
+            Some(Frame::Else(condition, first)) => Some((condition, first)),
             _ => None,
         }
     }

@@ -242,7 +242,7 @@ impl State {
     fn operate(&mut self, operator: Operator, mode: Mode, x: Found, at: u32) -> Result<(), Fault>
         ensures { Leads result self.new (spec.operator operator mode at x self.old) }
     {
-        self.pending = self.pending.with_operator(operator, at, x);
+        self.pending.wait(operator, at, x);
         self.turn(mode)
     }
 
