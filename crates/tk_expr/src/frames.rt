@@ -6,30 +6,29 @@ ghost use Rattle.tk_expr.specs.declared.machine.Frame.TheVariants.{Else};
 ghost use Rattle.tk_expr.specs.Machine as spec;
 
 use crate::machine::Frame;
-use crate::values::{Found, chosen};
+use crate::values::{Found, chosen, number};
 use std::marker::Model;
 use tk_token::{Code, Fault};
 
 /// The parentheses and `?` that may be open.
 const MOST_FRAMES: usize = 64;
 
-/// What is open, innermost first: at most 64 frames. It takes no memory. The stack is made with the first one, since
-/// most expressions open nothing.
+/// What is open, innermost first: at most 64 frames. It takes no memory.
 #[derive(Drop)]
 pub struct Frames {
-    stack: Option<[Frame; 64]>,
+    stack: [Frame; 64],
     len: usize,
 }
 
 impl Model for Frames {
-    ghost use Rattle.std.specs.Prelude.{◌≡◌, List, [], length, reverse, take, unwrap_or, ◌≤◌, IfSome, IfNone};
+    ghost use Rattle.std.specs.Prelude.{List, reverse, take, ◌≤◌};
     ghost use Rattle.tk_expr.specs.declared.machine.Frame.{Frame};
 
     ghost Value = { List Frame };
 
-    ghost view = { λ f. reverse (take f.len (unwrap_or f.stack [])) };
+    ghost view = { λ f. reverse (take f.len f.stack) };
 
-    ghost invariant = { λ f. (f.len ≤ 64) × IfSome f.stack (λ stack. length stack ≡ 64) × IfNone f.stack (f.len ≡ 0) };
+    ghost invariant = { λ f. f.len ≤ 64 };
 }
 
 impl Frames {
@@ -38,7 +37,7 @@ impl Frames {
         ensures { result ≡ [] }
     {
         Frames {
-            stack: None,
+            stack: [Frame::Then(Ok(number(0))); 64],
             len: 0,
         }
     }
@@ -56,25 +55,9 @@ impl Frames {
                 at,
             });
         }
-        match &mut self.stack {
-            Some(stack) => stack[self.len] = frame,
-            None => self.stack = Some([frame; MOST_FRAMES]),
-        }
+        self.stack[self.len] = frame;
         self.len += 1;
         Ok(())
-    }
-
-    /// The innermost one.
-    fn top(&self) -> Option<Frame>
-        ensures { MatchOption result (self.now ≡ []) (λ frame. self.now ≡ frame ∷ drop 1 self.now) }
-    {
-        if self.len == 0 {
-            return None;
-        }
-        match &self.stack {
-            Some(stack) => Some(stack[self.len - 1]),
-            None => None,
-        }
     }
 
     /// Takes the innermost one off.
@@ -86,18 +69,18 @@ impl Frames {
             return None;
         }
         self.len -= 1;
-        match &self.stack {
-            Some(stack) => Some(stack[self.len]),
-            None => None,
-        }
+        Some(self.stack[self.len])
     }
 
     /// The condition and the first value of the innermost one, where it is a `?` that has its `:`.
     fn choice(&self) -> Option<(Found, Found)>
         ensures { MatchOption result (spec.is_choice self.now ≡ false) (λ found. self.now ≡ Else found.0 found.1 ∷ drop 1 self.now) }
     {
-        match self.top() {
-            Some(Frame::Else(condition, first)) => Some((condition, first)),
+        if self.len == 0 {
+            return None;
+        }
+        match self.stack[self.len - 1] {
+            Frame::Else(condition, first) => Some((condition, first)),
             _ => None,
         }
     }

@@ -44,13 +44,13 @@ pub enum Bracket {
     Each(Most, Option<Found>),
 }
 
-/// What is open.
+/// What is open. The first kind is first, so that a blank frame is all zeros.
 #[derive(Clone, Copy)]
 pub enum Frame {
-    /// A parenthesis, with what waits outside it.
-    Inside(Bracket, Pending),
     /// A `?` with its condition, before the `:`.
     Then(Found),
+    /// A parenthesis, with what waits outside it.
+    Inside(Bracket, Pending),
     /// A `?` with its condition and the value before the `:`, behind it.
     Else(Found, Found),
 }
