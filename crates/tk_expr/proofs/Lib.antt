@@ -19,6 +19,7 @@ pub mod ProperPieces
 pub mod Readings
 pub mod Roots
 pub mod Runs
+pub mod ShortWay
 pub mod SignRuns
 pub mod Stacks
 pub mod Stepping

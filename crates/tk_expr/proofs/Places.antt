@@ -39,7 +39,7 @@ use Rattle.tk_expr.specs.declared.machine.Mode.{Mode}
 use Rattle.tk_expr.specs.declared.machine.Mode.TheVariants.{Wanted, Ordered, Half, Named, Dot, Number, Measured, After}
 use Rattle.tk_expr.specs.Number.{Decimal, no_digits, with_digit, with_whole_digit, with_point, plain_value}
 use Rattle.tk_expr.specs.Values.{placed}
-use Rattle.tk_expr.specs.Machine.{Found, State, signed_found, applied, powered, multiplied, added, compared, conjoined, disjoined, product_waits, sum_waits, comparison_waits, waits, waiting_or_same, Closed, choice_found, closed, closed_behind, wanted_in, opened, most_found, bracket_ends, right, bracket_goes_on, comma, colon, to_mode, sign_exponent, sign_operand, begin, ordered, is_half, half, named, operator, comparison, after, dot, measured, number, step_in, step, start, run, operand, value_in, finish_behind, finish}
+use Rattle.tk_expr.specs.Machine.{Found, State, signed_found, applied, powered, multiplied, added, compared, conjoined, disjoined, product_waits, sum_waits, comparison_waits, waits, waiting_or_same, Closed, choice_found, closed, closed_behind, wanted_in, opened, most_found, bracket_ends, at_right, bracket_goes_on, at_comma, at_colon, to_mode, sign_exponent, sign_operand, begin, ordered, is_half, half, named, operator, comparison, after, dot, measured, number, step_in, step, start, run, operand, value_in, finish_behind, finish}
 use Rattle.tk_expr.specs.Pieces.{Lump, Letters, Alone, with_letter, with_token, lumps_of, piece_of, pieces_of}
 use Rattle.tk_expr.specs.Evaluated.{evaluated}
 use Rattle.tk_expr.specs.Evaluates.{end_of}
@@ -234,7 +234,7 @@ module _ (Good : ℕ → Type 0) where
   ends_fine at (Second f name x) v p fs s e k h i j = outside_fine _ p fs s (fine_then x _ k.1 (λ _. fine_then v _ h (λ _. placed_fine name _ k.0))) i j
   ends_fine at (Each f x) v p fs s e k h i j = outside_fine _ p fs s (most_fine f x v k h) i j
 
-  right_fine : (at : ℕ) (v : Found) (fs : List Frame) (s : State) → Good at → Fine v → FramesFine fs → Stays (right at v fs s)
+  right_fine : (at : ℕ) (v : Found) (fs : List Frame) (s : State) → Good at → Fine v → FramesFine fs → Stays (at_right at v fs s)
   right_fine at v [] s e h k = e
   right_fine at v (Inside bracket saved ∷ fs) s e h k = ends_fine at bracket v saved fs s e k.0.0 h k.0.1 k.1
   right_fine at v (Then c ∷ fs) s e h k = e
@@ -247,13 +247,13 @@ module _ (Good : ℕ → Type 0) where
   goes_on_fine at (Second f name x) v p fs s e k h i j = k.0
   goes_on_fine at (Each f x) v p fs s e k h i j = nothing_fine (Inside (Each f (Some (most_found f x v))) p ∷ fs) s ((most_fine f x v k h, i), j)
 
-  comma_fine : (at : ℕ) (v : Found) (fs : List Frame) (s : State) → Good at → Fine v → FramesFine fs → Stays (comma at v fs s)
+  comma_fine : (at : ℕ) (v : Found) (fs : List Frame) (s : State) → Good at → Fine v → FramesFine fs → Stays (at_comma at v fs s)
   comma_fine at v [] s e h k = e
   comma_fine at v (Inside bracket saved ∷ fs) s e h k = goes_on_fine at bracket v saved fs s e k.0.0 h k.0.1 k.1
   comma_fine at v (Then c ∷ fs) s e h k = e
   comma_fine at v (Else c x ∷ fs) s e h k = e
 
-  colon_fine : (at : ℕ) (v : Found) (fs : List Frame) (s : State) → Good at → Fine v → FramesFine fs → Stays (colon at v fs s)
+  colon_fine : (at : ℕ) (v : Found) (fs : List Frame) (s : State) → Good at → Fine v → FramesFine fs → Stays (at_colon at v fs s)
   colon_fine at v [] s e h k = e
   colon_fine at v (Inside bracket saved ∷ fs) s e h k = e
   colon_fine at v (Then c ∷ fs) s e h k = nothing_fine (Else c v ∷ fs) s ((k.0, h), k.1)

@@ -1,4 +1,21 @@
 -- What the machine comes to is the answer.
+--
+-- A guide to the proofs of this crate. The relation that carries them is `Completes font s ps v`: behind what the state s
+-- has read, the pieces ps are the rest of some text, whose value is v. Behind `1+2`, for instance, `*3` completes to 7,
+-- and `)` to nothing, since nothing is open.
+--
+-- 1. Readings gives the grammar over values in place of trees, and Trees says that it is the same grammar. Gaps and Fronts
+--    say what stands in front of a text, Decimals how digits make a number, and SignRuns that a run of signs is one sign.
+-- 2. Continuations defines `Completes`: how a text goes on behind an operand, level by level, with what waits for it and
+--    what is open. Levels says that at the start this is the grammar itself (`fresh_whole`).
+-- 3. Behind, Ends and Stepping take one piece: the machine goes to a state that the same texts complete, or refuses a
+--    piece with which no text goes on. Outcomes has the words for that, and Stepping joins the modes (`step_is`).
+-- 4. Closing completes each state by some text, so that what was read is always the beginning of one. Finishing says what
+--    the machine makes of the end of the pieces.
+-- 5. This file goes through all pieces (`Reached`), and so shows that the machine's answer is one by the grammar.
+--    OneAnswer shows that there is no other, and Evaluations that therefore all evaluations are the machine's.
+-- 6. Apart from that: Places follows the places of faults, ShortWay shows that a decimal read without the machine has the
+--    machine's value, and Letters and ProperPieces tie tokens to pieces.
 use Rattle.std.proofs.Common.{◌≡◌, ◌⊎◌, ◌↔◌, inl, inr, ℕ, suc, ◌≤◌, Bool, true, false, ◌||◌, List, [], ◌∷◌, ◌++◌, length, drop, Option, None, refl, sym, ap, ap₂, subst, ◌∙◌, arith, append_assoc, append-nil, zero-le}
 use Rattle.tk_token.specs.Answers.{Answer, ◌>>=◌}
 use Rattle.tk_token.specs.declared.Tok.{Tok}

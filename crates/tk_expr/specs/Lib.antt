@@ -8,6 +8,7 @@ pub mod Number
 pub mod Pairs
 pub mod Pieces
 pub mod Places
+pub mod Plain
 pub mod Steps
 pub mod Tree
 pub mod Values

@@ -9,6 +9,7 @@ ghost use Rattle.tk_expr.specs.Pieces.{pieces_of};
 
 use crate::machine::{Mode, State};
 use crate::pieces::next_piece;
+use crate::plain::plain_value;
 use crate::steps::misfit;
 use crate::values::Found;
 use crate::{FontUnits, Value};
@@ -68,8 +69,18 @@ impl State {
 }
 
 /// The value of an expression; `at` is the place of an empty one.
-#[tactic(auto, unfolding(crate::specs::Evaluated::evaluated))]
 pub(crate) fn evaluate(list: &[Tok], font: &FontUnits, at: u32) -> Result<Value, Fault>
+    ensures { result ≡ spec.evaluated font.now at list.now }
+{
+    match plain_value(list, font) {
+        Some(found) => found,
+        None => by_machine(list, font, at),
+    }
+}
+
+/// The same for any text.
+#[tactic(auto, unfolding(crate::specs::Evaluated::evaluated))]
+fn by_machine(list: &[Tok], font: &FontUnits, at: u32) -> Result<Value, Fault>
     ensures { result ≡ spec.evaluated font.now at list.now }
 {
     let mut state = State::new();

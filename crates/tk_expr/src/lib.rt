@@ -9,6 +9,7 @@ mod number;
 mod operators;
 mod pairs;
 mod pieces;
+mod plain;
 mod settle;
 mod steps;
 #[cfg(test)]
