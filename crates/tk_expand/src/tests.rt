@@ -1,0 +1,405 @@
+//! What no clause says: that the calls succeed with ample memory, and some values worked out by hand.
+
+use crate::{Input, Units, expand_all, is_expanded, is_there};
+use std::alloc::Global;
+use std::process::Abort;
+use std::test::Fail;
+use tk_store::{Body, Macro, Store};
+use tk_token::{Code, Fault, Kind, Refusal, Tok};
+
+/// The macros of the tests: a word, how many arguments it has, and its body, in which a digit is the place of an argument.
+const MACROS: [(char, u8, &str); 7] = [
+    // Its text is 2 tokens longer than its argument.
+    ('F', 1, "(1)"),
+    ('G', 0, "Fx"),
+    ('H', 0, ""),
+    ('E', 2, "2-1"),
+    // It needs an argument that stands behind its call.
+    ('K', 0, "F"),
+    // It doubles its argument, and never ends.
+    ('D', 1, "D{11}"),
+    // It calls itself, and never ends.
+    ('L', 0, "L"),
+];
+
+/// A text, the budget, the units that are paid, and the expanded text or the fault with its place. A capital is a control
+/// word, `_` a gap. A token of the text has the place of its character, a token of a body that of its character after 100.
+const EXPANDED: [(&str, u64, u64, &str); 30] = [
+    ("", 0, 0, ""),
+    ("ab{c}_", 0, 0, "ab{c}_"),
+    // A word without a macro stays.
+    ("aZb", 0, 0, "aZb"),
+    // The text has 3 tokens.
+    ("Fx", 4, 4, "(x)"),
+    ("Fxy", 9, 4, "(x)y"),
+    ("aFxb", 4, 4, "a(x)b"),
+    // Gaps before an argument are passed over, those behind it stay.
+    ("F__x_y", 4, 4, "(x)_y"),
+    // The contents of a group are one argument, and braces in it stay.
+    ("F{ab}c", 5, 5, "(ab)c"),
+    ("F_{{a}_b}", 8, 8, "({a}_b)"),
+    ("F{}", 3, 3, "()"),
+    ("Exy", 4, 4, "y-x"),
+    ("E{ab}_y_", 5, 5, "y-ab_"),
+    ("HxH", 2, 2, "x"),
+    // First 1 + 2 for `Fx`, then 1 + 3.
+    ("G", 7, 7, "(x)"),
+    // First 1 + 1 for `F`, then 1 + 3; the argument stands behind the call.
+    ("Ky", 6, 6, "(y)"),
+    // An argument isn't expanded before it is put in: 1 + 3 for `(G)`, then 3, then 4.
+    ("FG", 11, 11, "((x))"),
+    // Calls in a group are replaced too.
+    ("{Fx}Fy", 8, 8, "{(x)}(y)"),
+    ("F", 99, 0, "MacroArg 0"),
+    ("aF__", 99, 0, "MacroArg 1"),
+    ("a{F}b", 99, 0, "MacroArg 2"),
+    ("Ex_}y", 99, 0, "MacroArg 0"),
+    // The group isn't closed.
+    ("F{ab", 99, 0, "MacroArg 0"),
+    ("HK", 99, 3, "MacroArg 100"),
+    // One unit less than the cost of 4.
+    ("aFx", 3, 0, "Budget 1"),
+    // An argument is read before the cost is paid.
+    ("F", 0, 0, "MacroArg 0"),
+    ("G", 6, 3, "Budget 100"),
+    // The costs are 6, 8, 12, 20, 36, then 68.
+    ("Dx", 149, 82, "Budget 100"),
+    ("Fx", 0, 0, "Budget 0"),
+    // What never ends is ended: `L` costs 2 each time.
+    ("L", 20_000, 20_000, "Budget 100"),
+    // The argument of the 13 calls that are paid is doubled each time, from 1 token on: they cost 4 + 2, up to 4 + 2^13.
+    ("Dx", 20_000, 16_434, "Budget 100"),
+];
+
+/// A call on a list that is being read.
+#[derive(Clone, Copy)]
+enum Call {
+    First,
+    Raw,
+    SkipSpaces,
+    Until(char),
+    Group,
+    Argument,
+    Token,
+    Char(char),
+    Open,
+    Close,
+    Text(&'static str),
+    Name(&'static str),
+    Next,
+    Solid,
+    NextChar(char),
+    Letters(&'static str),
+}
+
+/// A list, a call, what it gives, the units that it costs, and what it leaves. What stands before a `|` is a list that was
+/// put in front of the other. A fault stands at its token, or at 77, where the list runs out.
+const READ: [(&str, Call, &str, u64, &str); 66] = [
+    ("ab", Call::First, "a", 0, "ab"),
+    ("|ab", Call::First, "a", 0, "ab"),
+    ("", Call::First, "none", 0, ""),
+    ("a|b", Call::Raw, "a", 0, "b"),
+    ("F", Call::Raw, "F", 0, ""),
+    ("", Call::Raw, "none", 0, ""),
+    ("__|_a_", Call::SkipSpaces, "done", 0, "a_"),
+    ("a_", Call::SkipSpaces, "done", 0, "a_"),
+    ("_", Call::SkipSpaces, "done", 0, ""),
+    ("a,b", Call::Until(','), "a", 0, "b"),
+    (",b", Call::Until(','), "", 0, "b"),
+    ("a,", Call::Until(','), "a", 0, ""),
+    ("a,|b", Call::Until(','), "a", 0, "b"),
+    ("a|b,c", Call::Until(','), "ab", 0, "c"),
+    ("{a|,}b,c", Call::Until(','), "{a,}b", 0, "c"),
+    ("{a,b}_,c,d", Call::Until(','), "{a,b}_", 0, "c,d"),
+    ("{{a}b},{", Call::Until(','), "{{a}b}", 0, "{"),
+    // Without the character outside braces nothing is taken.
+    ("", Call::Until(','), "none", 0, ""),
+    ("ab{,}", Call::Until(','), "none", 0, "ab{,}"),
+    ("a;|{b", Call::Until(','), "none", 0, "a;{b"),
+    // So it is where a `}` comes before it.
+    ("a}b,c", Call::Until(','), "none", 0, "a}b,c"),
+    ("a|b}c,", Call::Until(','), "none", 0, "ab}c,"),
+    ("a{b}}c", Call::Group, "a{b}", 0, "c"),
+    ("}c", Call::Group, "", 0, "c"),
+    ("a{|b}}c", Call::Group, "a{b}", 0, "c"),
+    ("a{b}c", Call::Group, "none", 0, "a{b}c"),
+    ("ab", Call::Argument, "a", 0, "b"),
+    ("__ab", Call::Argument, "a", 0, "b"),
+    ("_{a{b}}_c", Call::Argument, "a{b}", 0, "_c"),
+    ("_{|a}b", Call::Argument, "a", 0, "b"),
+    ("{}", Call::Argument, "", 0, ""),
+    ("Fx", Call::Argument, "F", 0, "x"),
+    ("", Call::Argument, "MacroArg 9", 0, ""),
+    ("_", Call::Argument, "MacroArg 9", 0, ""),
+    ("_}a", Call::Argument, "MacroArg 9", 0, "a"),
+    ("{a{}", Call::Argument, "MacroArg 9", 0, "a{}"),
+    ("Fx", Call::Token, "F", 0, "x"),
+    ("_a", Call::Token, "_", 0, "a"),
+    ("", Call::Token, "Unbuilt 77", 0, ""),
+    ("ab", Call::Char('a'), "done", 0, "b"),
+    ("ba", Call::Char('a'), "Unbuilt 0", 0, "a"),
+    ("_a", Call::Char('a'), "Unbuilt 0", 0, "a"),
+    ("", Call::Char('a'), "Unbuilt 77", 0, ""),
+    ("{a", Call::Open, "done", 0, "a"),
+    ("}a", Call::Open, "Unbuilt 0", 0, "a"),
+    ("}a", Call::Close, "done", 0, "a"),
+    ("{a", Call::Close, "Unbuilt 0", 0, "a"),
+    ("abc", Call::Text("ab"), "done", 0, "c"),
+    ("a_b", Call::Text("ab"), "Unbuilt 1", 0, "b"),
+    ("a", Call::Text("ab"), "Unbuilt 77", 0, ""),
+    ("a", Call::Text(""), "done", 0, "a"),
+    ("_{ab}c", Call::Name("ab"), "done", 0, "c"),
+    ("{_ab}", Call::Name("ab"), "Unbuilt 1", 0, "ab}"),
+    ("{abc}", Call::Name("ab"), "Unbuilt 3", 0, "}"),
+    ("Fxy", Call::Next, "(", 4, "x)y"),
+    ("H_a", Call::Next, "_", 1, "a"),
+    ("H", Call::Next, "none", 1, ""),
+    ("F|", Call::Next, "MacroArg 0", 0, ""),
+    ("H_|_Ha", Call::Solid, "a", 2, ""),
+    ("_H_", Call::Solid, "none", 1, ""),
+    ("_F", Call::Solid, "MacroArg 1", 0, ""),
+    ("Fx", Call::NextChar('('), "done", 4, "x)"),
+    ("_a", Call::NextChar('a'), "Unbuilt 0", 0, "a"),
+    ("H", Call::NextChar('a'), "Unbuilt 77", 1, ""),
+    ("aHb|c", Call::Letters("abc"), "done", 1, ""),
+    ("aFb", Call::Letters("a(c"), "Unbuilt 2", 4, ")"),
+];
+
+fn kind_of(character: char) -> Kind {
+    match character {
+        '{' => Kind::Open,
+        '}' => Kind::Close,
+        '_' => Kind::Space,
+        '1' => Kind::Arg(1),
+        '2' => Kind::Arg(2),
+        'A'..='Z' => Kind::Word(character as u32),
+        _ => Kind::Char(character),
+    }
+}
+
+fn toks(alloc: Global, text: &str, first: u32) -> Result<Vec<Tok>, Fail> {
+    let mut toks = Vec::new(alloc);
+    let mut at = first;
+    for character in text.chars() {
+        let kind = kind_of(character);
+        toks.push(Tok { kind, at })?;
+        at = at.saturating_add(1);
+    }
+    Ok(toks)
+}
+
+fn shown(alloc: Global, toks: &[Tok]) -> Result<String, Fail> {
+    let mut text = String::new(alloc);
+    for tok in toks {
+        text.push(match tok.kind {
+            Kind::Open => '{',
+            Kind::Close => '}',
+            Kind::Space => '_',
+            Kind::Word(word) => char::from_u32(word).unwrap_or('?'),
+            Kind::Char(character) => character,
+            _ => '?',
+        })?;
+    }
+    Ok(text)
+}
+
+/// A fault with its place.
+fn fault_shown(alloc: Global, fault: Fault) -> Result<String, Fail> {
+    let name = match fault.code {
+        Code::MacroArg => "MacroArg",
+        Code::Budget => "Budget",
+        Code::Unbuilt => "Unbuilt",
+        _ => "?",
+    };
+    let at = fault.at;
+    Ok(format!(in alloc; "{name} {at}")?)
+}
+
+fn refusal_shown(alloc: Global, refusal: Refusal) -> Result<String, Fail> {
+    match refusal {
+        Refusal::Fault(fault) => fault_shown(alloc, fault),
+        Refusal::OutOfMemory => Err("no memory".into()),
+    }
+}
+
+fn list_shown(alloc: Global, given: Result<Vec<Tok>, Refusal>) -> Result<String, Fail> {
+    match given {
+        Ok(toks) => shown(alloc, &toks),
+        Err(refusal) => refusal_shown(alloc, refusal),
+    }
+}
+
+fn found_shown(alloc: Global, found: Option<Vec<Tok>>) -> Result<String, Fail> {
+    match found {
+        Some(toks) => shown(alloc, &toks),
+        None => Ok(String::from_str(alloc, "none")?),
+    }
+}
+
+fn token_shown(alloc: Global, token: Option<Tok>) -> Result<String, Fail> {
+    match token {
+        Some(tok) => shown(alloc, &[tok]),
+        None => Ok(String::from_str(alloc, "none")?),
+    }
+}
+
+fn next_shown(alloc: Global, given: Result<Option<Tok>, Refusal>) -> Result<String, Fail> {
+    match given {
+        Ok(token) => token_shown(alloc, token),
+        Err(refusal) => refusal_shown(alloc, refusal),
+    }
+}
+
+fn done(alloc: Global, given: Result<(), Refusal>) -> Result<String, Fail> {
+    match given {
+        Ok(()) => Ok(String::from_str(alloc, "done")?),
+        Err(refusal) => refusal_shown(alloc, refusal),
+    }
+}
+
+fn met(alloc: Global, given: Result<(), Fault>) -> Result<String, Fail> {
+    match given {
+        Ok(()) => Ok(String::from_str(alloc, "done")?),
+        Err(fault) => fault_shown(alloc, fault),
+    }
+}
+
+fn store(alloc: Global) -> Result<Store, Fail> {
+    let mut store = Store::new(alloc)?;
+    for (word, args, body) in &MACROS {
+        let body = Body::from_vec(toks(alloc, body, 100)?)?;
+        store.set_macro(*word as u32, Macro { args: *args, body })?;
+    }
+    Ok(store)
+}
+
+/// A list of which the part before the first `|` was put in front of the other.
+fn input(alloc: Global, text: &str) -> Result<Input, Fail> {
+    let Some((front, back)) = text.split_once('|') else {
+        let list = Body::from_vec(toks(alloc, text, 0)?)?;
+        return Ok(Input::new(alloc, list, 77)?);
+    };
+    let list = Body::from_vec(toks(alloc, back, 50)?)?;
+    let mut input = Input::new(alloc, list, 77)?;
+    input.push(Body::from_vec(toks(alloc, front, 0)?)?)?;
+    Ok(input)
+}
+
+/// What is left of a list, taken as it stands.
+fn rest_of(alloc: Global, mut input: Input) -> Result<String, Fail> {
+    let mut toks = Vec::new(alloc);
+    for _ in 0..100 {
+        match input.raw() {
+            Some(tok) => toks.push(tok)?,
+            None => break,
+        }
+    }
+    shown(alloc, &toks)
+}
+
+/// What a call that reads tokens as they are written gives.
+fn written(alloc: Global, call: Call, input: &mut Input) -> Result<String, Fail> {
+    match call {
+        Call::First => token_shown(alloc, input.first()),
+        Call::Raw => token_shown(alloc, input.raw()),
+        Call::SkipSpaces => {
+            input.skip_spaces();
+            met(alloc, Ok(()))
+        }
+        Call::Until(stop) => found_shown(alloc, input.until(stop)?),
+        Call::Group => found_shown(alloc, input.group()?),
+        Call::Argument => list_shown(alloc, input.argument(9)),
+        Call::Token => match input.token(Code::Unbuilt) {
+            Ok(tok) => shown(alloc, &[tok]),
+            Err(fault) => fault_shown(alloc, fault),
+        },
+        Call::Char(wanted) => met(alloc, input.expect_char(Code::Unbuilt, wanted)),
+        Call::Open => met(alloc, input.expect_open(Code::Unbuilt)),
+        Call::Close => met(alloc, input.expect_close(Code::Unbuilt)),
+        Call::Text(text) => met(alloc, input.expect_text(Code::Unbuilt, text.as_bytes())),
+        Call::Name(name) => met(alloc, input.expect_name(Code::Unbuilt, name.as_bytes())),
+        _ => Err("no such call".into()),
+    }
+}
+
+/// What a call gives.
+fn given(
+    alloc: Global,
+    call: Call,
+    input: &mut Input,
+    store: &Store,
+    units: &mut Units,
+) -> Result<String, Fail> {
+    match call {
+        Call::Next => next_shown(alloc, input.next(store, units)),
+        Call::Solid => next_shown(alloc, input.next_solid(store, units)),
+        Call::NextChar(wanted) => done(
+            alloc,
+            input.expect_next(Code::Unbuilt, wanted, store, units),
+        ),
+        Call::Letters(text) => done(
+            alloc,
+            input.expect_letters(Code::Unbuilt, text.as_bytes(), store, units),
+        ),
+        _ => written(alloc, call, input),
+    }
+}
+
+#[test]
+fn calls_are_replaced_until_none_is_left(rt: HostRuntime) -> Result<(), Fail> {
+    let alloc = rt.alloc();
+    let store = store(alloc)?;
+    for (text, budget, used, wanted) in &EXPANDED {
+        let mut units = Units {
+            used: 0,
+            budget: *budget,
+        };
+        let list = toks(alloc, text, 0)?;
+        let still = is_expanded(&list, &store);
+        let answer = list_shown(alloc, expand_all(alloc, list, &store, &mut units))?;
+        assert_eq!(rt; answer.as_str(), *wanted, "{text}");
+        assert_eq!(rt; units.used, *used, "{text}");
+        assert_eq!(rt; still, answer.as_str() == *text, "{text}");
+    }
+    Ok(())
+}
+
+#[test]
+fn what_stands_next_is_read(rt: HostRuntime) -> Result<(), Fail> {
+    let alloc = rt.alloc();
+    let store = store(alloc)?;
+    for (text, call, wanted, used, rest) in &READ {
+        let mut input = input(alloc, text)?;
+        let mut units = Units {
+            used: 1,
+            budget: 99,
+        };
+        let answer = given(alloc, *call, &mut input, &store, &mut units)?;
+        assert_eq!(rt; answer.as_str(), *wanted, "{text}");
+        assert_eq!(rt; units.used, used.saturating_add(1), "{text}");
+        assert_eq!(rt; input.end(), 77);
+        assert_eq!(rt; rest_of(alloc, input)?.as_str(), *rest, "{text}");
+    }
+    Ok(())
+}
+
+#[test]
+fn a_cost_is_paid_up_to_the_budget(rt: HostRuntime) -> Result<(), Fail> {
+    let mut units = Units {
+        used: 18_446_744_073_709_551_614,
+        budget: 18_446_744_073_709_551_615,
+    };
+    assert!(rt; units.pay(2, 3).is_err());
+    assert!(rt; units.pay(1, 3).is_ok());
+    assert!(rt; units.pay(0, 3).is_ok());
+    assert!(rt; units.pay(1, 3).is_err());
+    assert_eq!(rt; units.used, 18_446_744_073_709_551_615);
+    let input = input(rt.alloc(), "a")?;
+    let first = input.first();
+    assert!(rt; input.expect(Code::Unbuilt, first, 'a').is_ok());
+    assert!(rt; input.expect(Code::Unbuilt, None, 'a').is_err());
+    assert!(rt; is_there(first, 'a') && !is_there(first, 'b') && !is_there(None, 'a'));
+    assert_eq!(rt; input.place(first), 0);
+    assert_eq!(rt; input.place(None), 77);
+    Ok(())
+}
