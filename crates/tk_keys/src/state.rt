@@ -177,6 +177,15 @@ impl State {
     {
         self.store.close(steps);
     }
+
+    /// Closes the last level and counts no steps. This takes no memory.
+    pub fn close_uncounted(&mut self)
+        requires { 0 < length self.old.levels.outer }
+        ensures levels { self.old.levels.outer ≡ self.new.levels.top ∷ self.new.levels.outer }
+        ensures kept { self.new ≡ record self.old { levels = self.new.levels } }
+    {
+        self.store.close_uncounted();
+    }
 }
 
 /// The words of a source, and those that a run makes itself.

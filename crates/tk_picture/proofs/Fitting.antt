@@ -6,6 +6,8 @@ use Rattle.tk_item.specs.declared.Drawing.{Drawing}
 use Rattle.tk_item.specs.Frame.{IsProperFrame}
 use Rattle.tk_svg.specs.Document.{IsFamily}
 use Rattle.tk_svg.specs.Fitting.{Fits, FitsItem}
+use Rattle.tk_picture.specs.declared.drawer.Drawer.{Drawer}
+use Rattle.tk_picture.specs.Views.{IsSound, OnlyPays}
 
 is_family : IsFamily (codes "monospace")
 is_family = record { some = lit< tt; each = refl }
@@ -22,3 +24,7 @@ fits d p f h = record {
   family = subst IsFamily (sym f) is_family;
   items = h;
 }
+
+-- what is drawn fits as before where only units were paid
+pub sound_paid : (old new : Drawer) → OnlyPays old new → IsSound old → IsSound new
+sound_paid old new pays h = subst IsSound (sym pays) (record { items = h.items; paths = h.paths; proper = h.proper })

@@ -1,6 +1,9 @@
+pub mod Closers
 pub mod CommandMoves
+pub mod Drawing
 pub mod Evaluating
 pub mod Fitting
+pub mod Loops
 pub mod Moving
 pub mod Numbered
 pub mod Outcomes

@@ -8,7 +8,7 @@ use Rattle.tk_token.specs.declared.Refusal.TheVariants as refusals
 use Rattle.tk_token.specs.declared.Tok.{Tok}
 use Rattle.tk_token.specs.Answers.{Answer, ◌>>=◌}
 use Rattle.tk_token.specs.Faults.{Lexes}
-use Rattle.tk_token.specs.Refusals.{OnFault, Gives}
+use Rattle.tk_token.specs.Refusals.{OnFault, Fails}
 use Rattle.tk_token.specs.Token.{Token, token_of, IsWordIn}
 use Rattle.tk_token.specs.Words.{EachOnce, words_of, tok_of}
 use Rattle.tk_expand.specs.Unread.{Unread, unread}
@@ -17,7 +17,9 @@ use Rattle.tk_expr.specs.Evaluated.{evaluated}
 use Rattle.tk_expr.specs.Evaluates.{Evaluation, IsEvaluation}
 use Rattle.tk_expr.proofs.Evaluations.{is_evaluated}
 use Rattle.tk_expr.proofs.Runs.{evaluated_is_the_answer}
+use Rattle.tk_expr.specs.declared.FontUnits.{FontUnits}
 use Rattle.tk_keys.specs.Given.{Given, known_words}
+use Rattle.tk_keys.specs.State.{State, first_state, given_of}
 use Rattle.tk_picture.specs.declared.Compiled.{Compiled}
 use Rattle.tk_picture.specs.Documents.{document}
 use Rattle.tk_picture.specs.Outcome.{font_units, given_for, document_of, IsOutcome, of_tokens}
@@ -29,6 +31,13 @@ use Rattle.tk_picture.proofs.CommandMoves.{document_at}
 -- what is given where the words are those
 abbrev pub given_words : List (List ℕ) → ℕ → Given
 given_words names budget = record { names = known_words names; evaluate = evaluated; font = font_units; budget = budget }
+
+-- the code's run is over what is given
+pub ran_over : (names : List (List ℕ)) (budget : ℕ) (font : FontUnits) (state : State) (list : Unread) (toks : List Tok) (end : ℕ) → state ≡ first_state names font budget → font ≡ font_units → list ≡ unread toks end → document (given_of evaluated state) list ≡ document (given_words names budget) (unread toks end)
+ran_over names budget font state list toks end begun units told =
+    ap (λ (s : State). document (given_of evaluated s) list) begun
+    ∙ ap (λ (f : FontUnits). document (given_of evaluated (first_state names f budget)) list) units
+    ∙ ap (document (given_words names budget)) told
 
 module _ (budget : ℕ) (source : List ℕ) where
   -- a fault of cutting the source is its outcome, and has a line and a column
@@ -67,7 +76,7 @@ module _ (budget : ℕ) (source : List ℕ) where
     pub drawing_outcome : (c : Compiled) → document (given_words names budget) (unread toks (length source)) ≡ Ok c → IsOutcome budget source (Ok c)
     drawing_outcome c h = subst (IsOutcome budget source) h outcome
 
-    pub fault_outcome : (e : Refusal) → (r : Answer Compiled) → r ≡ document (given_words names budget) (unread toks (length source)) → OnFault e (λ f. r ≡ Err f) → OnFault e (λ f. IsOutcome budget source (Err f))
+    pub fault_outcome : (e : Refusal) → (r : Answer Compiled) → r ≡ document (given_words names budget) (unread toks (length source)) → Fails e r → OnFault e (λ f. IsOutcome budget source (Err f))
     fault_outcome (refusals.Fault f) r is h = subst (IsOutcome budget source) (sym is ∙ h) outcome
     fault_outcome refusals.OutOfMemory r is h = tt
 
@@ -83,11 +92,11 @@ module _ (budget : ℕ) (source : List ℕ) where
         told (Ok c) e k = absurd cc
         told (Err g) e k = (let same : g ≡ f = cc in subst (λ (g : Fault). IsPlace source g.at) same k)
 
-    pub fault_place : (e : Refusal) → (r : Answer Compiled) → r ≡ document (given_words names budget) (unread toks (length source)) → OnFault e (λ f. r ≡ Err f) → OnFault e (λ f. f.at ≤ length source)
+    pub fault_place : (e : Refusal) → (r : Answer Compiled) → r ≡ document (given_words names budget) (unread toks (length source)) → Fails e r → OnFault e (λ f. f.at ≤ length source)
     fault_place (refusals.Fault f) r is h = (fault_at f (sym is ∙ h)).within
     fault_place refusals.OutOfMemory r is h = tt
 
-    pub fault_text : (e : Refusal) → (r : Answer Compiled) → r ≡ document (given_words names budget) (unread toks (length source)) → OnFault e (λ f. r ≡ Err f) → OnFault e (λ f. IsUtf8 (take f.at source))
+    pub fault_text : (e : Refusal) → (r : Answer Compiled) → r ≡ document (given_words names budget) (unread toks (length source)) → Fails e r → OnFault e (λ f. IsUtf8 (take f.at source))
     fault_text (refusals.Fault f) r is h = (fault_at f (sym is ∙ h)).text
     fault_text refusals.OutOfMemory r is h = tt
 

@@ -25,7 +25,7 @@ use Rattle.tk_keys.specs.Given.{Given}
 use Rattle.tk_picture.specs.Configurations.{Configuration, Progress, stream_at, Lookahead, place_ahead, must_be, ahead_of, behind_next, behind_letters}
 use Rattle.tk_picture.specs.Coordinates.{centimetre, Reached, break_of, point_of, coordinate, point}
 use Rattle.tk_picture.specs.Flow.{Flow, Goes_on, Finishes, go_on}
-use Rattle.tk_picture.specs.Paths.{Stretch, stretch, PathOpener, A_path, PathFlow, drawn_with, letter_c, path_end, line, cycle, operation, path_part, operations_step, stretch_work, operations, path}
+use Rattle.tk_picture.specs.Paths.{Stretch, stretch, PathOpener, A_path, PathFlow, drawn_with, letter_c, path_end, line, cycle, dashes, line_target, operation, path_part, operations_step, stretch_work, operations, path}
 use Rattle.tk_expand.proofs.NextPlaces.{place_at}
 use Rattle.tk_keys.proofs.Reading.{spaces_at}
 use Rattle.tk_picture.proofs.Moving.{At, Comes, Advances, Looks, Returns, comes, advances_then, then_advances, then_returns, then_looks, looked, must_at, ahead_at, next_at, letters_at}
@@ -111,16 +111,25 @@ module _ (P : ℕ → Type 0) (given : Given) (begin : P 0) (evaluates : Evaluat
       then_at P (Looks P given (drawn_with Close d)) (PartAt c) (ahead_of given (drawn_with Close d)) _ (ahead_at P given (drawn_with Close d) (record { bodies = a.at.bodies; rest = a.at.rest; end = a.at.end })) (λ last b.
       weaker_at P (PartAt (drawn_with Close d)) (PartAt c) (path_end last) (λ part k. part_further c (drawn_with Close d) part (record { fell = a.fell; at = record { bodies = a.at.bodies; rest = a.at.rest; end = a.at.end } }) k) (end_at (drawn_with Close d) last b)))
 
+  dashes_at : (c : Configuration) (ahead : Lookahead) → Looks P given c ahead → Stands P (Advances P given c) (dashes given ahead)
+  unfolding dashes
+  dashes_at c ahead h =
+      then_at P (Advances P given c) (Advances P given c) (must_be (is_char dash) ahead) _ (must_at P given (is_char dash) c ahead h) (λ one a.
+      weaker_at P (Advances P given one) (Advances P given c) (behind_next given (is_char dash) one) (λ d b. advances_then P given c one d a (comes P given one d b)) (next_at P given (is_char dash) one a.at))
+
+  target_at : (c : Configuration) → At P given c → Stands P (PartAt c) (line_target given c)
+  unfolding line_target
+  target_at c h =
+      then_at P (Looks P given c) (PartAt c) (ahead_of given c) _ (ahead_at P given c h) (λ target a.
+      if_at P (PartAt c) (is_there (is_char letter_c) target.token) (cycle given target.behind) (line given target)
+      (weaker_at P (PartAt target.behind) (PartAt c) (cycle given target.behind) (λ part k. part_further c target.behind part (looked P given c target a) k) (cycle_at target.behind a.at))
+      (line_at c target a))
+
   operation_at : (c : Configuration) (ahead : Lookahead) → Looks P given c ahead → Stands P (PartAt c) (operation given ahead)
   unfolding operation
   operation_at c ahead h =
-      then_at P (Advances P given c) (PartAt c) (must_be (is_char dash) ahead) _ (must_at P given (is_char dash) c ahead h) (λ one a.
-      then_at P (Advances P given one) (PartAt c) (behind_next given (is_char dash) one) _ (next_at P given (is_char dash) one a.at) (λ both b.
-      then_at P (Looks P given both) (PartAt c) (ahead_of given both) _ (ahead_at P given both b.at) (λ target d.
-      let far = comes P given c both (advances_then P given c one both a (comes P given one both b)) in
-      if_at P (PartAt c) (is_there (is_char letter_c) target.token) (cycle given target.behind) (line given target)
-      (weaker_at P (PartAt target.behind) (PartAt c) (cycle given target.behind) (λ part k. part_further c both part far (part_further both target.behind part (looked P given both target d) k)) (cycle_at target.behind d.at))
-      (weaker_at P (PartAt both) (PartAt c) (line given target) (λ part k. part_further c both part far k) (line_at both target d)))))
+      then_at P (Advances P given c) (PartAt c) (dashes given ahead) _ (dashes_at c ahead h) (λ both a.
+      weaker_at P (PartAt both) (PartAt c) (line_target given both) (λ part k. part_further c both part (comes P given c both a) k) (target_at both a.at))
 
   pub part_at : (c : Configuration) → At P given c → Stands P (PartAt c) (path_part given c)
   unfolding path_part

@@ -23,7 +23,7 @@ use Rattle.tk_picture.proofs.PathMoves.{EvaluatesAt, part_at}
 use Rattle.tk_picture.proofs.Pinned.{IsPinned, is_its_step, is_never_stuck}
 
 -- all places
-abbrev Any : ℕ → Type 0
+abbrev pub Any : ℕ → Type 0
 Any at = Unit {0}
 
 any_stand : (ts : List Tok) → StandAt Any ts
@@ -38,12 +38,12 @@ module _ (given : Given) where
   any_at : (c : Configuration) → At Any given c
   any_at c = record { bodies = (λ w m is. any_stand m.body); rest = any_stand c.list.rest; end = tt }
 
-  any_evaluates : EvaluatesAt Any given
+  pub any_evaluates : EvaluatesAt Any given
   any_evaluates at ts p h = stands_anywhere _
 
   -- ---- operations
 
-  part_less : (c : Configuration) → IfOk (path_part given c) (path_moves.PartAt Any given tt any_evaluates c)
+  pub part_less : (c : Configuration) → IfOk (path_part given c) (path_moves.PartAt Any given tt any_evaluates c)
   part_less c = ok_at Any (path_moves.PartAt Any given tt any_evaluates c) (path_part given c) (part_at Any given tt any_evaluates c (any_at c))
 
   follow_alike : (f g : Stretch → Answer Progress) (s : Stretch) → ((r : Stretch) → stretch_work given r < stretch_work given s → f r ≡ g r) → (part : PathFlow) → path_moves.PartAt Any given tt any_evaluates s.start part → go_on (λ next. f (stretch s.opener next)) part ≡ go_on (λ next. g (stretch s.opener next)) part
@@ -65,13 +65,13 @@ module _ (given : Given) where
 
   -- ---- commands
 
-  looks_any : (c : Configuration) → IfOk (ahead_of given c) (Looks Any given c)
+  pub looks_any : (c : Configuration) → IfOk (ahead_of given c) (Looks Any given c)
   looks_any c = ok_at Any (Looks Any given c) (ahead_of given c) (ahead_at Any given c (any_at c))
 
-  abbrev Falls : Configuration → CommandFlow → Type 0
+  abbrev pub Falls : Configuration → CommandFlow → Type 0
   Falls c part = moves.PartAt Any given tt any_evaluates c part
 
-  command_falls : (opener : Opener) (token : Option Tok) (c : Configuration) → IfOk (command_at given (commands given) opener token c) (Falls c)
+  pub command_falls : (opener : Opener) (token : Option Tok) (c : Configuration) → IfOk (command_at given (commands given) opener token c) (Falls c)
   command_falls opener token c = ok_at Any (Falls c) (command_at given (commands given) opener token c) (moves.command_at_moves Any given tt any_evaluates (commands given) (λ b k. moves.commands_move Any given tt any_evaluates b k) opener token c (any_token token) (any_at c))
     where
       any_token : (token : Option Tok) → TokenAt Any token

@@ -59,13 +59,23 @@ module _ (given : Given) where
     last ← ahead_of given (drawn_with Close behind)
     path_end last
 
-  -- `--` and its target, which is `cycle` or a coordinate
+  -- `--`, whose first token was taken
+  unfoldable pub dashes : Lookahead → Answer Configuration
+  dashes first = do
+    one ← must_be (is_char dash) first
+    behind_next given (is_char dash) one
+
+  -- what a line goes to: `cycle`, or a coordinate
+  unfoldable pub line_target : Configuration → Answer PathFlow
+  line_target c = do
+    target ← ahead_of given c
+    if is_there (is_char letter_c) target.token then cycle target.behind else line target
+
+  -- `--` and its target
   unfoldable pub operation : Lookahead → Answer PathFlow
   operation first = do
-    one ← must_be (is_char dash) first
-    both ← behind_next given (is_char dash) one
-    target ← ahead_of given both
-    if is_there (is_char letter_c) target.token then cycle target.behind else line target
+    both ← dashes first
+    line_target both
 
   -- `;`, or one operation
   unfoldable pub path_part : Configuration → Answer PathFlow

@@ -1,5 +1,5 @@
 -- What the code holds, as the definitions see it. Only the code's own contracts use this.
-use Rattle.std.specs.Prelude.{◌≡◌, ℕ, List, Option, Ok, IfSome}
+use Rattle.std.specs.Prelude.{◌≡◌, ℕ, List, [], Option, IfSome}
 use Rattle.std.specs.List.{AllByRecursion}
 use Rattle.tk_item.specs.declared.Point.{Point}
 use Rattle.tk_item.specs.declared.Seg.{Seg}
@@ -8,6 +8,7 @@ use Rattle.tk_svg.specs.Fitting.{FitsItem, IsPath}
 use Rattle.tk_token.specs.declared.Tok.{Tok}
 use Rattle.tk_expand.specs.Unread.{Unread}
 use Rattle.tk_expr.specs.Evaluated.{evaluated}
+use Rattle.tk_keys.specs.Environment.{first_env}
 use Rattle.tk_keys.specs.Given.{Given}
 use Rattle.tk_keys.specs.State.{env_of, given_of}
 use Rattle.tk_picture.specs.declared.drawer.Drawer.{Drawer}
@@ -18,7 +19,7 @@ use Rattle.tk_picture.specs.declared.commands.Opener.TheVariants as openers
 use Rattle.tk_picture.specs.declared.commands.Beginning as code_beginning
 use Rattle.tk_picture.specs.declared.commands.Beginning.TheVariants as beginnings
 use Rattle.tk_picture.specs.Flow.{Flow, Goes_on, Finishes}
-use Rattle.tk_picture.specs.Pictures.{Picture}
+use Rattle.tk_picture.specs.Pictures.{Picture, first_picture}
 use Rattle.tk_picture.specs.Configurations.{Configuration, configuration, Progress, progress, Lookahead, lookahead}
 use Rattle.tk_picture.specs.Coordinates.{Reached}
 use Rattle.tk_picture.specs.Commands.{Opener, A_picture, A_group, Beginning, Begins_path, Opens_group, Closes_group, Ends_environment, Begins_other}
@@ -79,3 +80,8 @@ reached_of point d segs list = record { point = point; behind = configuration_of
 pub record Keeps (old new : Drawer) : Type 0 where
   pub given : given_to new ≡ given_to old
   pub outer : new.state.levels.outer ≡ old.state.levels.outer
+
+-- nothing is drawn or paid, and no word has a macro
+pub record IsNew (d : Drawer) : Type 0 where
+  pub env : env_of d.state ≡ first_env
+  pub picture : picture_of d [] ≡ first_picture

@@ -1,17 +1,13 @@
 //! The commands of a picture.
 
-ghost use Rattle.std.specs.Prelude.{◌≡◌, ◌∷◌, ◌<◌, [], length, OnOk};
+ghost use Rattle.std.specs.Prelude.{◌≡◌, [], OnOk};
 ghost use Rattle.tk_token.specs.Refusals.{Gives};
 ghost use Rattle.tk_picture.specs.Commands.{Opener as AnOpener, Begins_path, Opens_group, Begins_other, begun_by, beginning_of, block, command, command_at, commands};
 ghost use Rattle.tk_picture.specs.Views.{given_to, configuration_of, progress_of, flow_of, opener_of, begun_of, IsSound, Keeps};
 
 use crate::drawer::{Drawer, Flow, unbuilt};
-use std::marker::Brand;
-use std::sync::ledger::{Blank, Ledger};
 use tk_expand::Input;
 use tk_item::Segs;
-use tk_keys::State;
-use tk_store::Steps;
 use tk_token::{Code, Kind, Refusal, Tok};
 
 /// What commands stand in, with its place.
@@ -117,7 +113,7 @@ impl Drawer {
     {
         self.state.open(first.at)?;
         self.commands(input, Opener::Group(first.at))?;
-        close_level(&mut self.state);
+        self.state.close_uncounted();
         Ok(Flow::GoesOn)
     }
 
@@ -132,7 +128,7 @@ impl Drawer {
         let mut segs = Segs::new(self.state.allocator());
         self.state.open(first.at)?;
         self.path(input, &mut segs)?;
-        close_level(&mut self.state);
+        self.state.close_uncounted();
         self.add(segs)?;
         Ok(Flow::GoesOn)
     }
@@ -177,26 +173,4 @@ fn begun_by(word: &str) -> Beginning
         "end" => Beginning::EndEnvironment,
         _ => Beginning::Other,
     }
-}
-
-/// Closes the last level, and counts no steps.
-fn close_level(state: &mut State)
-    requires { 0 < length state.old.levels.outer }
-    ensures levels { state.old.levels.outer ≡ state.new.levels.top ∷ state.new.levels.outer }
-    ensures kept { state.new ≡ record state.old { levels = state.new.levels } }
-{
-    close_with::<Brand>(state, Blank::new(1));
-}
-
-/// Closes the last level with a counter of its own.
-fn close_with<L: Ledger>(state: &mut State, blank: Blank)
-    requires level { 0 < length state.old.levels.outer }
-    requires name { blank.name ≡ L.name }
-    requires parts { blank.parts ≡ L.parts }
-    requires some { 0 < L.parts }
-    ensures levels { state.old.levels.outer ≡ state.new.levels.top ∷ state.new.levels.outer }
-    ensures kept { state.new ≡ record state.old { levels = state.new.levels } }
-{
-    let mut steps = Steps::<L>::new(blank);
-    state.close(&mut steps);
 }

@@ -9,15 +9,16 @@ ghost use Rattle.tk_token.specs.Groups.{cut, before_char};
 ghost use Rattle.tk_token.specs.Refusals.{Gives};
 ghost use Rattle.tk_expand.specs.Tells.{Tells};
 ghost use Rattle.tk_expr.specs.Evaluated.{evaluated};
+ghost use Rattle.tk_expr.specs.Pairs.{paired};
 ghost use Rattle.tk_picture.specs.Coordinates.{break_of, point_of, coordinate, point};
 ghost use Rattle.tk_picture.specs.Views.{given_to, configuration_of, lookahead_of, reached_of, OnlyPays};
 
 use crate::drawer::{Drawer, scaled, unbuilt};
 use std::alloc::{AllocError, Global};
 use tk_expand::Input;
-use tk_expr::{FontUnits, pair, vector};
+use tk_expr::{FontUnits, ValuePair, pair, vector};
 use tk_item::Point;
-use tk_token::{Code, Fault, Refusal, Sought, Tok, first_outside, trimmed};
+use tk_token::{Code, Fault, Kind, Refusal, Sought, Tok, first_outside, trimmed};
 
 /// One centimetre in scaled points.
 const CENTIMETRE: i64 = 1_864_679;
@@ -69,10 +70,14 @@ fn break_of(alloc: Global, input: &mut Input) -> Result<u32, AllocError>
 {
     let mut open = Vec::new(alloc);
     while let Some(tok) = input.raw() {
-        if tok.kind.is_open() {
-            open.push(tok)?;
-        } else if tok.kind.is_close() && open.pop().is_none() {
-            return Ok(tok.at);
+        match tok.kind {
+            Kind::Open => open.push(tok)?,
+            Kind::Close => {
+                if open.pop().is_none() {
+                    return Ok(tok.at);
+                }
+            }
+            _ => {}
         }
     }
     Ok(input.end())
@@ -86,9 +91,16 @@ fn point_of(text: &[Tok], font: FontUnits, at: u32) -> Result<Point, Fault>
     if first_outside(text, Sought::Corner).is_some() {
         return Err(unbuilt(at));
     }
-    let Some(numbers) = pair(text, font, at)? else {
+    let Some(numbers) = numbers_of(text, font, at)? else {
         return Err(unbuilt(at));
     };
     let centimetre = scaled(CENTIMETRE);
     vector(numbers, centimetre, centimetre, at)
+}
+
+/// The numbers of a coordinate's text.
+fn numbers_of(text: &[Tok], font: FontUnits, at: u32) -> Result<Option<ValuePair>, Fault>
+    ensures { result ≡ paired evaluated font at text.now }
+{
+    pair(text, font, at)
 }

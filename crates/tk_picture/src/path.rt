@@ -1,9 +1,10 @@
 //! Paths.
 
-ghost use Rattle.std.specs.Prelude.{◌≡◌, ℕ, [], OnOk};
+ghost use Rattle.std.specs.Prelude.{◌≡◌, ℕ, List, [], OnOk};
+ghost use Rattle.tk_item.specs.declared.Seg.{Seg as ASeg};
 ghost use Rattle.tk_svg.specs.Fitting.{BeginsWithMove};
 ghost use Rattle.tk_token.specs.Refusals.{Gives};
-ghost use Rattle.tk_picture.specs.Paths.{PathOpener, stretch, path_end, line, cycle, operation, path_part, operations, path};
+ghost use Rattle.tk_picture.specs.Paths.{PathOpener, stretch, path_end, line, cycle, dashes, line_target, operation, path_part, operations, path};
 ghost use Rattle.tk_picture.specs.Views.{given_to, configuration_of, progress_of, lookahead_of, flow_of, OnlyPays};
 
 use crate::drawer::{Drawer, Flow};
@@ -70,7 +71,7 @@ impl Drawer {
     }
 
     /// Reads `--` and its target, where the first token was taken.
-    #[tactic(auto, unfolding(crate::specs::Configurations::must_be, crate::specs::Paths::operation))]
+    #[tactic(auto, unfolding(crate::specs::Paths::operation))]
     fn operation(
         &mut self,
         input: &mut Input,
@@ -83,8 +84,30 @@ impl Drawer {
         ensures pays { OnOk result (OnlyPays self.old self.new) }
         ensures begins { OnOk result (BeginsWithMove segs.new) }
     {
+        self.dashes(input, first)?;
+        self.line_target(input, segs)
+    }
+
+    /// Reads `--`, whose first token was taken.
+    #[tactic(auto, unfolding(crate::specs::Configurations::must_be, crate::specs::Paths::dashes))]
+    fn dashes(&mut self, input: &mut Input, first: Option<Tok>) -> Result<(), Refusal>
+        ensures gives { (segs : List ASeg) → Gives (λ _. configuration_of self.new segs input.new) result
+            (dashes (given_to self.old) (lookahead_of first self.old segs input.old)) }
+        ensures pays { OnOk result (OnlyPays self.old self.new) }
+    {
         input.expect(Code::Unbuilt, first, '-')?;
-        self.expect_next(input, '-')?;
+        self.expect_next(input, '-')
+    }
+
+    /// Reads what a line goes to.
+    #[tactic(auto, unfolding(crate::specs::Paths::line_target))]
+    fn line_target(&mut self, input: &mut Input, segs: &mut Segs) -> Result<Flow, Refusal>
+        requires begins { BeginsWithMove segs.old }
+        ensures gives { Gives (flow_of self.new segs.new input.new) result
+            (line_target (given_to self.old) (configuration_of self.old segs.old input.old)) }
+        ensures pays { OnOk result (OnlyPays self.old self.new) }
+        ensures begins { OnOk result (BeginsWithMove segs.new) }
+    {
         let target = self.ahead(input)?;
         if is_there(target, 'c') {
             return self.cycle(input, segs);
