@@ -56,6 +56,7 @@ impl Decimal {
         }
     }
 
+    #[inline(always)]
     pub(crate) fn is_pointed(self) -> bool
         ensures { result ≡ self.pointed }
     {
@@ -63,6 +64,7 @@ impl Decimal {
     }
 
     /// One more digit.
+    #[inline(always)]
     pub(crate) fn with_digit(self, digit: u8) -> Decimal
         ensures { result ≡ spec.with_digit digit self }
     {
@@ -73,6 +75,7 @@ impl Decimal {
         }
     }
 
+    #[inline(always)]
     fn with_whole_digit(self, digit: u8) -> Decimal
         ensures { result ≡ spec.with_whole_digit digit self }
     {
@@ -85,6 +88,7 @@ impl Decimal {
         }
     }
 
+    #[inline(always)]
     fn with_part_digit(self, digit: u8) -> Decimal
         ensures { result ≡ spec.with_part_digit digit self }
     {
@@ -101,6 +105,7 @@ impl Decimal {
     }
 
     /// The point.
+    #[inline(always)]
     pub(crate) fn with_point(self) -> Decimal
         ensures { result ≡ spec.with_point self }
     {
@@ -115,6 +120,7 @@ impl Decimal {
 
     /// What it stands for, in 65536ths.
     #[tactic(auto, unfolding(crate::specs::Number::total))]
+    #[inline(always)]
     fn total(self) -> u64
         ensures value { result ≡ spec.total self }
         ensures small { result ≤ 9223372036854775807 }
@@ -123,6 +129,7 @@ impl Decimal {
     }
 
     /// Its value without a unit; TooLarge at its place where that is out of range.
+    #[inline(always)]
     pub(crate) fn plain_value(self, font: &FontUnits) -> Found
         ensures { result ≡ spec.plain_value font.now self }
     {
@@ -138,6 +145,7 @@ impl Decimal {
 }
 
 /// The 65536ths nearest to the digits of a fraction, ties upward.
+#[inline(always)]
 fn nearest(part: u64, count: u32) -> u64
     requires few { count ≤ 17 }
     requires below { part + 29 ≤ 29 * 10 ^ count }

@@ -79,6 +79,7 @@ impl Signs {
     }
 
     /// What the signs make of a number.
+    #[inline(always)]
     fn of(self, x: Scaled) -> Scaled
         ensures { result ≡ spec.signed_by self x }
     {
@@ -89,6 +90,7 @@ impl Signs {
     }
 
     /// What the signs make of a number that may be a fault.
+    #[inline(always)]
     pub(crate) fn of_found(self, x: Found) -> Found
         ensures { result ≡ spec.signed_found self x }
     {
@@ -105,6 +107,7 @@ fn with_not(truth: Truth) -> Truth
     }
 }
 
+#[inline(always)]
 fn as_truth(form: Truth, x: Scaled) -> Scaled
     ensures { result ≡ spec.as_truth form x }
 {

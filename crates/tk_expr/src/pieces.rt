@@ -1,8 +1,9 @@
 //! The pieces of an expression.
 
-ghost use Rattle.std.specs.Prelude.{◌≡◌, ◌<◌, ◌≤◌, [], ◌∷◌, ◌++◌, true, false, length, map, not, MatchOption, IfSome, IfNone};
+ghost use Rattle.std.specs.Prelude.{◌≡◌, ◌<◌, ◌≤◌, List, [], ◌∷◌, ◌++◌, true, false, length, map, not, MatchOption, IfSome, IfNone};
 ghost use Rattle.std.specs.List.{prefix_len, position, list_all};
 ghost use Rattle.arrayvec.specs.ArrayString.{array_string_len};
+ghost use Rattle.tk_token.specs.declared.Tok.{Tok as ATok};
 ghost use Rattle.tk_expr.specs.Pieces as spec;
 ghost use Rattle.tk_expr.specs.Letters.{is_letter_kind, letter_of_kind, is_letter_tok, letter_of};
 
@@ -93,6 +94,7 @@ pub struct Piece {
 
 /// What a character that is no letter is.
 #[tactic(auto, unfolding(crate::specs::Pieces::char_mark))]
+#[inline(always)]
 fn char_mark(c: char) -> Mark
     ensures { result ≡ spec.char_mark c }
 {
@@ -120,6 +122,7 @@ fn char_mark(c: char) -> Mark
 }
 
 /// What a single token is.
+#[inline(always)]
 fn single_mark(kind: Kind) -> Mark
     ensures { result ≡ spec.mark_of kind }
 {
@@ -171,6 +174,7 @@ fn word_mark(word: &str) -> Mark
 }
 
 /// Whether a token is an ASCII letter.
+#[inline(always)]
 fn is_letter(kind: Kind) -> bool
     ensures { result ≡ is_letter_kind kind }
 {
@@ -242,16 +246,28 @@ fn run_mark(letters: &[Tok]) -> Mark
 }
 
 /// The piece in front, and the tokens after it.
+#[inline(always)]
 pub(crate) fn next_piece(list: &[Tok]) -> Option<(Piece, &[Tok])>
     ensures pieces { MatchOption result (spec.pieces_of list.now ≡ []) (λ found. spec.pieces_of list.now ≡ found.0 ∷ spec.pieces_of found.1.now) }
     ensures shorter { IfSome result (λ found. length found.1.now < length list.now) }
 {
     let (first, tail) = list.split_first()?;
-    if !is_letter(first.kind) {
-        let mark = single_mark(first.kind);
-        return Some((Piece { mark, at: first.at }, tail));
+    if is_letter(first.kind) {
+        return Some(run_piece(*first, list));
     }
+    let mark = single_mark(first.kind);
+    Some((Piece { mark, at: first.at }, tail))
+}
+
+/// The piece of the letters in front, of which the first is given, and the tokens after it.
+#[inline(never)]
+fn run_piece(first: Tok, list: &[Tok]) -> (Piece, &[Tok])
+    requires front { (tail : List ATok) × (list.now ≡ first ∷ tail) }
+    requires letter { is_letter_kind first.kind ≡ true }
+    ensures pieces { spec.pieces_of list.now ≡ result.0 ∷ spec.pieces_of result.1.now }
+    ensures shorter { length result.1.now < length list.now }
+{
     let (letters, rest) = list.split_at(letters_len(list));
     let mark = run_mark(letters);
-    Some((Piece { mark, at: first.at }, rest))
+    (Piece { mark, at: first.at }, rest)
 }

@@ -20,6 +20,7 @@ pub(crate) fn plain_value(list: &[Tok], font: &FontUnits) -> Option<Result<Value
 }
 
 /// Whether a `-` stands in front, and what stands behind it.
+#[inline(always)]
 fn after_sign(list: &[Tok]) -> (bool, &[Tok])
     ensures { Reaches (wanting false) list.now (wanting result.0) result.1.now }
 {
@@ -64,6 +65,7 @@ fn longer(first: Decimal, list: &[Tok], font: &FontUnits) -> Option<(Found, bool
 }
 
 /// A decimal with the digits and the point that stand in front, and what stands behind them.
+#[inline(always)]
 fn all_digits(first: Decimal, list: &[Tok]) -> (Decimal, &[Tok])
     ensures { (negative : Bool) → Reaches (counting first negative) list.now (counting result.0 negative) result.1.now }
 {
@@ -77,6 +79,7 @@ fn all_digits(first: Decimal, list: &[Tok]) -> (Decimal, &[Tok])
 }
 
 /// A decimal with the digit or the point that stands in front, and what stands behind it.
+#[inline(always)]
 fn next_digit(decimal: Decimal, list: &[Tok]) -> Option<(Decimal, &[Tok])>
     ensures goes { IfSome result (λ found. (negative : Bool) → Reaches (counting decimal negative) list.now (counting found.0 negative) found.1.now) }
     ensures shorter { IfSome result (λ found. length found.1.now < length list.now) }
@@ -90,6 +93,7 @@ fn next_digit(decimal: Decimal, list: &[Tok]) -> Option<(Decimal, &[Tok])>
 }
 
 /// The number of a decimal, where nothing stands behind it but perhaps a unit.
+#[inline(always)]
 fn measured(decimal: Decimal, list: &[Tok], font: &FontUnits) -> Option<(Found, bool)>
     ensures { IfSome result (EndsAs font.now (counting decimal) list.now) }
 {
@@ -103,6 +107,7 @@ fn measured(decimal: Decimal, list: &[Tok], font: &FontUnits) -> Option<(Found, 
 }
 
 /// The value of a number behind a sign.
+#[inline(always)]
 fn signed(negative: bool, found: Found, unit: bool) -> Result<Value, Fault>
     ensures { result ≡ signed_value negative found unit }
 {

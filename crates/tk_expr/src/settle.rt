@@ -10,6 +10,7 @@ use crate::operators::{Operator, Signs};
 use crate::values::{Found, operated, placed};
 
 /// An operator that waits, with its right operand.
+#[inline(always)]
 fn applied(waiting: &Option<Waiting>, x: Found) -> Found
     ensures { result ≡ spec.applied waiting.now x }
 {
@@ -29,6 +30,7 @@ impl Pending {
 
     /// An operand with what waits for it on the level of powers.
     #[tactic(auto, unfolding(crate::specs::Machine::powered))]
+    #[inline(always)]
     fn powered(&self, x: Found) -> Found
         ensures { result ≡ spec.powered self.now x }
     {
@@ -37,6 +39,7 @@ impl Pending {
 
     /// The same up to products.
     #[tactic(auto, unfolding(crate::specs::Machine::multiplied))]
+    #[inline(always)]
     fn multiplied(&self, x: Found) -> Found
         ensures { result ≡ spec.multiplied self.now x }
     {
@@ -45,6 +48,7 @@ impl Pending {
 
     /// The same up to sums.
     #[tactic(auto, unfolding(crate::specs::Machine::added))]
+    #[inline(always)]
     fn added(&self, x: Found) -> Found
         ensures { result ≡ spec.added self.now x }
     {
@@ -76,6 +80,7 @@ impl Pending {
     }
 
     /// Waits with an operator that was read behind an operand: all that binds as tightly or tighter is settled.
+    #[inline(always)]
     pub(crate) fn wait(&mut self, operator: Operator, at: u32, x: Found)
         ensures { self.new ≡ spec.waits operator at x self.old }
     {
@@ -102,6 +107,7 @@ impl Pending {
     }
 
     /// No power waits any more, and no sign before one.
+    #[inline(always)]
     fn settle_power(&mut self)
         ensures { self.new ≡ record self.old { exponent = no_signs; power = None; signs = no_signs } }
     {
@@ -110,6 +116,7 @@ impl Pending {
         self.signs = Signs::default();
     }
 
+    #[inline(always)]
     fn wait_product(&mut self, operator: Operator, at: u32, x: Found)
         ensures { self.new ≡ spec.product_waits operator at x self.old }
     {
@@ -118,6 +125,7 @@ impl Pending {
         self.product = Some(Waiting { left, operator, at });
     }
 
+    #[inline(always)]
     fn wait_sum(&mut self, operator: Operator, at: u32, x: Found)
         ensures { self.new ≡ spec.sum_waits operator at x self.old }
     {

@@ -114,6 +114,7 @@ impl State {
     }
 
     /// Goes on in another mode.
+    #[inline(always)]
     fn turn(&mut self, mode: Mode) -> Result<(), Fault>
         ensures { Leads result self.new (spec.to_mode mode self.old) }
     {
@@ -183,6 +184,7 @@ impl State {
     }
 
     /// A piece where an operand is wanted.
+    #[inline(always)]
     fn begin(&mut self, mark: Mark, at: u32) -> Result<(), Fault>
         ensures { Leads result self.new (spec.begin mark at self.old) }
     {
@@ -239,6 +241,7 @@ impl State {
     }
 
     /// An operator behind an operand.
+    #[inline(always)]
     fn operate(&mut self, operator: Operator, mode: Mode, x: Found, at: u32) -> Result<(), Fault>
         ensures { Leads result self.new (spec.operator operator mode at x self.old) }
     {
@@ -402,6 +405,7 @@ impl State {
     }
 
     /// A piece behind a decimal and perhaps gaps.
+    #[inline(always)]
     fn measure(
         &mut self,
         font: &FontUnits,
@@ -422,6 +426,7 @@ impl State {
     }
 
     /// A piece directly behind a decimal.
+    #[inline(always)]
     fn count(
         &mut self,
         font: &FontUnits,
@@ -440,6 +445,7 @@ impl State {
     }
 
     /// A piece in a mode.
+    #[inline(always)]
     fn step_in(&mut self, font: &FontUnits, mode: Mode, mark: Mark, at: u32) -> Result<(), Fault>
         ensures { Leads result self.new (spec.step_in font.now mode mark at self.old) }
     {
@@ -457,6 +463,7 @@ impl State {
 
     /// One more piece, or the fault of one that doesn't fit.
     #[tactic(auto, unfolding(crate::specs::Machine::step))]
+    #[inline(always)]
     pub(crate) fn step(&mut self, font: &FontUnits, piece: Piece) -> Result<(), Fault>
         ensures { Leads result self.new (spec.step font.now self.old piece) }
     {

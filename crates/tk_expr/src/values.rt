@@ -14,6 +14,7 @@ use tk_token::{Code, Fault};
 pub type Found = Result<Scaled, Fault>;
 
 /// The number of so many 65536ths, which are in range.
+#[inline(always)]
 pub(crate) fn number(sp: i64) -> Scaled
     requires { IsScaled sp }
     ensures { result ≡ sp }
@@ -25,6 +26,7 @@ pub(crate) fn number(sp: i64) -> Scaled
 }
 
 /// The number of so many 65536ths; TooLarge where it is out of range.
+#[inline(always)]
 fn in_range(sp: i64) -> Result<Scaled, NumFault>
     ensures { result ≡ scaled sp }
 {
@@ -42,6 +44,7 @@ fn code_of(fault: NumFault) -> Code
 }
 
 /// A number that stands at a place, or its fault there.
+#[inline(always)]
 pub(crate) fn placed(at: u32, number: Result<Scaled, NumFault>) -> Found
     ensures { result ≡ spec.placed at number }
 {
@@ -55,6 +58,7 @@ pub(crate) fn placed(at: u32, number: Result<Scaled, NumFault>) -> Found
 }
 
 /// One for true, 0 for false.
+#[inline(always)]
 pub(crate) fn truth(holds: bool) -> Scaled
     ensures { result ≡ spec.truth holds }
 {
@@ -62,12 +66,14 @@ pub(crate) fn truth(holds: bool) -> Scaled
 }
 
 /// A number is true where it isn't 0.
+#[inline(always)]
 pub(crate) fn is_true(x: Scaled) -> bool
     ensures { result ≡ spec.is_true x }
 {
     x.sp() != 0
 }
 
+#[inline(always)]
 pub(crate) fn negated(x: Scaled) -> Scaled
     ensures { result ≡ neg_ℤ x }
 {
@@ -120,6 +126,7 @@ fn raised(x: Scaled, y: Scaled) -> Result<Scaled, NumFault>
 }
 
 /// What an operator makes of two numbers.
+#[inline(always)]
 pub(crate) fn operated(operator: Operator, x: Scaled, y: Scaled) -> Result<Scaled, NumFault>
     ensures { result ≡ spec.operated operator x y }
 {
