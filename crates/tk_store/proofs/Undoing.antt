@@ -9,7 +9,7 @@ use Rattle.std.specs.FinMap as map
 use Rattle.tk_store.specs.declared.Macro.{Macro}
 use Rattle.tk_store.specs.declared.tables.Saved.{Saved}
 use Rattle.tk_store.specs.declared.tables.Saved.TheVariants.{Macro as Replaced, NoMacro}
-use Rattle.tk_store.specs.Levels.{Level, Levels, opened, SetsMacro}
+use Rattle.tk_store.specs.Levels.{Level, opened, SetsMacro}
 use Rattle.tk_store.specs.Undo.{Entries, macros_of, before, before_all, made_since, made_until, settings_at, level_of, outer_of, levels_of, AreMarks}
 use Rattle.std.proofs.lemmas.List.{length-drop, append-nil}
 use Rattle.indexmap.specs.IndexMap.{insert_entry, set_value_at}
