@@ -13,7 +13,7 @@ use Rattle.tk_expr.specs.declared.machine.Frame.{Frame}
 use Rattle.tk_expr.specs.declared.machine.Frame.TheVariants.{Inside, Then, Else}
 use Rattle.tk_expr.specs.Faults.{Opener, Parenthesis, Call, Asked, Answered, name_behind, open_behind}
 use Rattle.tk_expr.specs.Grammar.{piece, Begins}
-use Rattle.tk_expr.specs.Machine.{Found, State, closed, choice_found, wanted_in, outside, one_found, two_found, most_found, bracket_ends, right, bracket_goes_on, comma, colon}
+use Rattle.tk_expr.specs.Machine.{Found, State, closed, choice_found, wanted_in, outside, one_found, two_found, most_found, bracket_ends, at_right, bracket_goes_on, at_comma, at_colon}
 use Rattle.tk_expr.proofs.Readings.{Whole, Further, no_further, one_further}
 use Rattle.tk_expr.proofs.Continuations.{Behind, Via, after_primary, closes, in_bracket, ends_in}
 use Rattle.tk_expr.proofs.Closing.{right_fits, comma_fits}
@@ -141,7 +141,7 @@ module _ (font : FontUnits) where
   right_in (Second f n x) p fs y unit at s u t = steps (outside (two_found f n x y) p fs s) (λ ps v. closed_same (after_primary font p (ends_in font fs v)) (two_found f n x y) at ps) (kept_right (Second f n x) p fs unit at (two_found f n x y) s u t) (λ le. omega arith)
   right_in (Each f x) p fs y unit at s u t = steps (outside (most_found f x y) p fs s) (λ ps v. (λ h. further_right (after_primary font p (ends_in font fs v)) h.read h.goes, λ h. record { value = most_found f x y; rest = ps; read = no_further refl; goes = h })) (kept_right (Each f x) p fs unit at (most_found f x y) s u t) (λ le. omega arith)
 
-  pub right_is : (fs : List Frame) (y : Found) (unit : Bool) (at : ℕ) (s : State) → s.unit ≡ unit → FramesTidy font fs → EndIs fs y unit Right at (right at (closed y fs).value (closed y fs).frames s)
+  pub right_is : (fs : List Frame) (y : Found) (unit : Bool) (at : ℕ) (s : State) → s.unit ≡ unit → FramesTidy font fs → EndIs fs y unit Right at (at_right at (closed y fs).value (closed y fs).frames s)
   right_is [] y unit at s u t = refuses (λ ps v h. end_of_list font Right at ps refl h.1) (inr tt)
   right_is (Inside b p ∷ fs) y unit at s u t = right_in b p fs y unit at s u t
   right_is (Then c ∷ fs) y unit at s u t = refuses (λ ps v (i, qs, b, h). other is_colon Right Colon at i ps qs refl refl refl b) (inr tt)
@@ -154,13 +154,13 @@ module _ (font : FontUnits) where
   comma_in (Second f n x) p fs y unit at s u t = miscounts n (λ ps v h. closed_other Comma refl refl (after_primary font p (ends_in font fs v)) (two_found f n x y) at ps h) (refl, λ k. right_fits font p fs k (two_found f n x y))
   comma_in (Each f x) p fs y unit at s u t = steps (wanted_in (Inside (Each f (Some (most_found f x y))) p ∷ fs) s) (λ ps v. let k = after_primary font p (ends_in font fs v) in let w = fresh_whole font (in_bracket font (Each f (Some (most_found f x y))) k) ps in (λ h. w.0 (further_comma k h.read h.goes), λ h. let e = w.1 h in record { value = e.goes.value; rest = e.goes.rest; read = one_further refl e.read e.goes.read; goes = e.goes.goes })) (kept_comma (Each f x) (Each f (Some (most_found f x y))) p fs unit at s u (λ h. h) (λ i h. h) t) (λ le. le)
 
-  pub comma_is : (fs : List Frame) (y : Found) (unit : Bool) (at : ℕ) (s : State) → s.unit ≡ unit → FramesTidy font fs → EndIs fs y unit Comma at (comma at (closed y fs).value (closed y fs).frames s)
+  pub comma_is : (fs : List Frame) (y : Found) (unit : Bool) (at : ℕ) (s : State) → s.unit ≡ unit → FramesTidy font fs → EndIs fs y unit Comma at (at_comma at (closed y fs).value (closed y fs).frames s)
   comma_is [] y unit at s u t = refuses (λ ps v h. end_of_list font Comma at ps refl h.1) (inr tt)
   comma_is (Inside b p ∷ fs) y unit at s u t = comma_in b p fs y unit at s u t
   comma_is (Then c ∷ fs) y unit at s u t = refuses (λ ps v (i, qs, b, h). other is_colon Comma Colon at i ps qs refl refl refl b) (inr tt)
   comma_is (Else c x ∷ fs) y unit at s u t = sure_behind c x fs unit Comma at _ _ _ _ (λ name os. refl) (comma_is fs (choice_found c x y) unit at s u t)
 
-  pub colon_is : (fs : List Frame) (y : Found) (unit : Bool) (at : ℕ) (s : State) → s.unit ≡ unit → FramesTidy font fs → EndIs fs y unit Colon at (colon at (closed y fs).value (closed y fs).frames s)
+  pub colon_is : (fs : List Frame) (y : Found) (unit : Bool) (at : ℕ) (s : State) → s.unit ≡ unit → FramesTidy font fs → EndIs fs y unit Colon at (at_colon at (closed y fs).value (closed y fs).frames s)
   colon_is [] y unit at s u t = refuses (λ ps v h. end_of_list font Colon at ps refl h.1) tt
   colon_is (Inside b p ∷ fs) y unit at s u t = refuses (λ ps v h. no_colon b (after_primary font p (ends_in font fs v)) y at ps h) tt
   colon_is (Then c ∷ fs) y unit at s u t = steps (wanted_in (Else c y ∷ fs) s) (λ ps v. let w = fresh_whole font (λ z rs. ends_in font fs v (choice_found c y z) rs) ps in (λ (i, qs, b, h). w.0 (front_from (λ _ _ ps. Via (Whole font ps) (λ z rs. ends_in font fs v (choice_found c y z) rs)) Colon Colon i at qs ps (sym b) h), λ h. (at, ps, refl, w.1 h))) (kept_colon c y fs unit at s u t) (λ le. le)

@@ -17,7 +17,7 @@ use Rattle.tk_expr.specs.declared.machine.Frame.TheVariants.{Inside, Then, Else}
 use Rattle.tk_expr.specs.declared.machine.Mode.{Mode}
 use Rattle.tk_expr.specs.declared.machine.Mode.TheVariants.{Wanted, Ordered, Half, Named, Dot, Number, Measured, After}
 use Rattle.tk_expr.specs.Evaluates.{valued}
-use Rattle.tk_expr.specs.Grammar.{Level, Products, Stands}
+use Rattle.tk_expr.specs.Grammar.{Precedence, Products, Stands}
 use Rattle.tk_expr.specs.Machine.{Found, State, applied, powered, multiplied, added, compared, conjoined, disjoined, closed, choice_found, operand, value_in, finish_behind, finish}
 use Rattle.tk_expr.specs.Number.{plain_value}
 use Rattle.tk_expr.proofs.Readings.{Asks, unasked, asked, group, Part, primary_part, postfix_part, prefixed_part, Goes, stays, on_unit, on_radians, on_power, on_operator, on_comparison, Prefixed, sign_before, no_sign_before, Exponential, exponent_sign_before, bare_exponent, Primary, of_digits, of_point, of_parenthesis, of_pi, of_one, of_two, of_most, Further, no_further, one_further}
@@ -65,7 +65,7 @@ module _ (font : FontUnits) where
   no_wants None p k v = no_product v.read
   no_wants (Some w) p k v = no_exponent v.read
 
-  goes_empty : {l : Level} {x y : Found} {qs : List Piece} (k : Behind) → Goes font l x [] y qs → k y qs → k x []
+  goes_empty : {l : Precedence} {x y : Found} {qs : List Piece} (k : Behind) → Goes font l x [] y qs → k y qs → k x []
   goes_empty k stays h = h
   goes_empty k (on_unit b r) h = absurd (no_piece b)
   goes_empty k (on_radians b r) h = absurd (no_piece b)
@@ -77,7 +77,7 @@ module _ (font : FontUnits) where
   asks_empty k unasked h = h
   asks_empty k (asked q t n u) h = absurd (no_piece q)
 
-  goes_via : {l : Level} (k : Behind) (x : Found) → Via (Goes font l x []) k → k x []
+  goes_via : {l : Precedence} (k : Behind) (x : Found) → Via (Goes font l x []) k → k x []
   goes_via k x v = goes_empty k v.read v.goes
 
   asks_via : (k : Behind) (x : Found) → Via (Asks font x []) k → k x []

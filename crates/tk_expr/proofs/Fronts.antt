@@ -9,7 +9,7 @@ use Rattle.tk_expr.specs.declared.pieces.Piece.{Piece}
 use Rattle.tk_expr.specs.declared.machine.Bracket.TheVariants.{Plain, Only, First, Each}
 use Rattle.tk_expr.specs.Number.{no_digits, with_digit}
 use Rattle.tk_expr.specs.Values.{pi_value}
-use Rattle.tk_expr.specs.Grammar.{piece, skip, past_gap, Level, Postfixes, Powers, Products, Sums, Comparisons, Conjunctions, Disjunctions, level_of, is_chain, Begins, Stands}
+use Rattle.tk_expr.specs.Grammar.{piece, skip, past_gap, Precedence, Postfixes, Powers, Products, Sums, Comparisons, Conjunctions, Disjunctions, precedence_of, is_chain, Begins, Stands}
 use Rattle.tk_expr.specs.Machine.{Found, applied, waiting, choice_found}
 use Rattle.tk_expr.proofs.Readings.{unit_found, radians_found, Whole, Asks, unasked, asked, Part, Goes, stays, on_unit, on_radians, on_power, on_operator, on_comparison, Exponential, Primary, of_digits, of_point, of_parenthesis, of_pi, of_one, of_two, of_most}
 use Rattle.tk_expr.proofs.Continuations.{Behind, Via, in_bracket, in_number, in_dot, in_name}
@@ -66,7 +66,7 @@ first_mark Either = Bar
 
 module _ (font : FontUnits) where
   -- how a text goes on behind an operand, with an operator of the level whose mark is in front
-  abbrev pub OperatorAt : Level → Behind → Found → Mark → ℕ → List Piece → Type 0
+  abbrev pub OperatorAt : Precedence → Behind → Found → Mark → ℕ → List Piece → Type 0
   OperatorAt Postfixes k x (Measure u) at ps = Via (Goes font Postfixes (unit_found font u at x) ps) k
   OperatorAt Postfixes k x Radian at ps = Via (Goes font Postfixes (radians_found at x) ps) k
   OperatorAt Powers k x Caret at ps = Via (Exponential font ps) (λ w qs. Via (Goes font Powers (applied (waiting Raise at x) w) qs) k)
@@ -82,7 +82,7 @@ module _ (font : FontUnits) where
   OperatorAt Disjunctions k x Bar at ps = (n : ℕ) × (qs : List Piece) × (ps ≡ piece Bar n ∷ qs) × Via (Part font Disjunctions qs) (λ w rs. Via (Goes font Disjunctions (applied (waiting Either at x) w) rs) k)
   OperatorAt _ k x _ at ps = ⊥
 
-  chain_at : (o : Operator) (k : Behind) (x : Found) (m : Mark) (at n : ℕ) (ps qs : List Piece) → is_gap m ≡ false → is_chain (level_of o) ≡ true → Stands o n (piece m at ∷ ps) qs → Via (Part font (level_of o) qs) (λ w rs. Via (Goes font (level_of o) (applied (waiting o n x) w) rs) k) → OperatorAt (level_of o) k x m at ps
+  chain_at : (o : Operator) (k : Behind) (x : Found) (m : Mark) (at n : ℕ) (ps qs : List Piece) → is_gap m ≡ false → is_chain (precedence_of o) ≡ true → Stands o n (piece m at ∷ ps) qs → Via (Part font (precedence_of o) qs) (λ w rs. Via (Goes font (precedence_of o) (applied (waiting o n x) w) rs) k) → OperatorAt (precedence_of o) k x m at ps
   chain_at Multiply k x m at n ps qs g c e h = front_to (OperatorAt Products k x) m Star at n ps qs g e h
   chain_at Divide k x m at n ps qs g c e h = front_to (OperatorAt Products k x) m Slash at n ps qs g e h
   chain_at Add k x m at n ps qs g c e h = front_to (OperatorAt Sums k x) m Plus at n ps qs g e h
@@ -98,11 +98,11 @@ module _ (font : FontUnits) where
   chain_at Above k x m at n ps qs g c e h = absurd (true≢false (sym c))
 
   -- whether a level is that of the comparisons
-  abbrev compares : Level → Bool
+  abbrev compares : Precedence → Bool
   compares Comparisons = true
   compares _ = false
 
-  comparison_at : (o : Operator) (k : Behind) (x : Found) (m : Mark) (at n : ℕ) (ps qs : List Piece) → is_gap m ≡ false → compares (level_of o) ≡ true → Stands o n (piece m at ∷ ps) qs → Via (Part font Comparisons qs) (λ w rs. k (applied (waiting o n x) w) rs) → OperatorAt Comparisons k x m at ps
+  comparison_at : (o : Operator) (k : Behind) (x : Found) (m : Mark) (at n : ℕ) (ps qs : List Piece) → is_gap m ≡ false → compares (precedence_of o) ≡ true → Stands o n (piece m at ∷ ps) qs → Via (Part font Comparisons qs) (λ w rs. k (applied (waiting o n x) w) rs) → OperatorAt Comparisons k x m at ps
   comparison_at Same k x m at n ps qs g c e h = front_to (OperatorAt Comparisons k x) m Equals at n ps (piece Equals e.0 ∷ qs) g e.1 (e.0, qs, refl, h)
   comparison_at Differs k x m at n ps qs g c e h = front_to (OperatorAt Comparisons k x) m Bang at n ps (piece Equals e.0 ∷ qs) g e.1 (e.0, qs, refl, h)
   comparison_at AtMost k x m at n ps qs g c e h = front_to (OperatorAt Comparisons k x) m Less at n ps (piece Equals e.0 ∷ qs) g e.1 (inr (e.0, qs, refl, h))
@@ -117,14 +117,14 @@ module _ (font : FontUnits) where
   comparison_at Both k x m at n ps qs g c e h = absurd (true≢false (sym c))
   comparison_at Either k x m at n ps qs g c e h = absurd (true≢false (sym c))
 
-  of_level : (l : Level) (o : Operator) (k : Behind) (x : Found) (m : Mark) (at n : ℕ) (ps qs : List Piece) → is_gap m ≡ false → level_of o ≡ l → is_chain l ≡ true → Stands o n (piece m at ∷ ps) qs → Via (Part font l qs) (λ w rs. Via (Goes font l (applied (waiting o n x) w) rs) k) → OperatorAt l k x m at ps
+  of_level : (l : Precedence) (o : Operator) (k : Behind) (x : Found) (m : Mark) (at n : ℕ) (ps qs : List Piece) → is_gap m ≡ false → precedence_of o ≡ l → is_chain l ≡ true → Stands o n (piece m at ∷ ps) qs → Via (Part font l qs) (λ w rs. Via (Goes font l (applied (waiting o n x) w) rs) k) → OperatorAt l k x m at ps
   of_level l o k x m at n ps qs g is c e h =
-      subst (λ (l : Level). OperatorAt l k x m at ps) is
-      (chain_at o k x m at n ps qs g (subst (λ (l : Level). is_chain l ≡ true) (sym is) c) e
-      (subst (λ (l : Level). Via (Part font l qs) (λ w rs. Via (Goes font l (applied (waiting o n x) w) rs) k)) (sym is) h))
+      subst (λ (l : Precedence). OperatorAt l k x m at ps) is
+      (chain_at o k x m at n ps qs g (subst (λ (l : Precedence). is_chain l ≡ true) (sym is) c) e
+      (subst (λ (l : Precedence). Via (Part font l qs) (λ w rs. Via (Goes font l (applied (waiting o n x) w) rs) k)) (sym is) h))
 
   -- behind an operand the piece in front is an operator of the level, or what stands behind the level goes on with it
-  pub operator_or : {l : Level} {x y : Found} {m : Mark} {at : ℕ} {ps qs : List Piece} (k : Behind) → is_gap m ≡ false → Goes font l x (piece m at ∷ ps) y qs → k y qs → k x (piece m at ∷ ps) ⊎ OperatorAt l k x m at ps
+  pub operator_or : {l : Precedence} {x y : Found} {m : Mark} {at : ℕ} {ps qs : List Piece} (k : Behind) → is_gap m ≡ false → Goes font l x (piece m at ∷ ps) y qs → k y qs → k x (piece m at ∷ ps) ⊎ OperatorAt l k x m at ps
   operator_or k g stays h = inl h
   operator_or {x = x} {m = m} {at = at} {ps = ps} k g (on_unit {qs = qs} {u = u} {at = n} e r) h = inr (front_to (OperatorAt Postfixes k x) m (Measure u) at n ps qs g e (record { value = _; rest = _; read = r; goes = h }))
   operator_or {x = x} {m = m} {at = at} {ps = ps} k g (on_radians {qs = qs} {at = n} e r) h = inr (front_to (OperatorAt Postfixes k x) m Radian at n ps qs g e (record { value = _; rest = _; read = r; goes = h }))
@@ -132,11 +132,11 @@ module _ (font : FontUnits) where
   operator_or {x = x} {m = m} {at = at} {ps = ps} k g (on_operator {l = l} {qs = qs} o n is c e w r) h = inr (of_level l o k x m at n ps qs g is c e (record { value = _; rest = _; read = w; goes = record { value = _; rest = _; read = r; goes = h } }))
   operator_or {x = x} {m = m} {at = at} {ps = ps} k g (on_comparison {qs = qs} o n is e w) h = inr (comparison_at o k x m at n ps qs g (ap compares is) e (record { value = _; rest = _; read = w; goes = h }))
 
-  pub operator_in : {l : Level} {x : Found} (m : Mark) (at : ℕ) (ps : List Piece) (k : Behind) → is_gap m ≡ false → Via (Goes font l x (piece m at ∷ ps)) k → k x (piece m at ∷ ps) ⊎ OperatorAt l k x m at ps
+  pub operator_in : {l : Precedence} {x : Found} (m : Mark) (at : ℕ) (ps : List Piece) (k : Behind) → is_gap m ≡ false → Via (Goes font l x (piece m at ∷ ps)) k → k x (piece m at ∷ ps) ⊎ OperatorAt l k x m at ps
   operator_in m at ps k g v = operator_or k g v.read v.goes
 
   -- the other way round
-  pub operator_on : (l : Level) (k : Behind) (x : Found) (m : Mark) (at : ℕ) (ps : List Piece) → OperatorAt l k x m at ps → Via (Goes font l x (piece m at ∷ ps)) k
+  pub operator_on : (l : Precedence) (k : Behind) (x : Found) (m : Mark) (at : ℕ) (ps : List Piece) → OperatorAt l k x m at ps → Via (Goes font l x (piece m at ∷ ps)) k
   operator_on Postfixes k x (Measure u) at ps h = record { value = h.value; rest = h.rest; read = on_unit refl h.read; goes = h.goes }
   operator_on Postfixes k x Radian at ps h = record { value = h.value; rest = h.rest; read = on_radians refl h.read; goes = h.goes }
   operator_on Powers k x Caret at ps h = record { value = h.goes.value; rest = h.goes.rest; read = on_power refl h.read h.goes.read; goes = h.goes.goes }

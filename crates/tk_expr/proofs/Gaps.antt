@@ -11,7 +11,7 @@ use Rattle.tk_expr.specs.declared.machine.Bracket.{Bracket}
 use Rattle.tk_expr.specs.declared.machine.Bracket.TheVariants.{Plain, Only, First, Second, Each}
 use Rattle.tk_expr.specs.declared.machine.Frame.{Frame}
 use Rattle.tk_expr.specs.declared.machine.Frame.TheVariants.{Inside, Then, Else}
-use Rattle.tk_expr.specs.Grammar.{skip, Level, Products, Stands}
+use Rattle.tk_expr.specs.Grammar.{skip, Precedence, Products, Stands}
 use Rattle.tk_expr.specs.Machine.{Found, applied, choice_found}
 use Rattle.tk_expr.proofs.Readings.{Asks, unasked, asked, group, Part, primary_part, postfix_part, prefixed_part, Goes, stays, on_unit, on_radians, on_power, on_operator, on_comparison, Prefixed, sign_before, no_sign_before, Exponential, exponent_sign_before, bare_exponent, Primary, of_digits, of_point, of_parenthesis, of_pi, of_one, of_two, of_most, Further, no_further, one_further}
 use Rattle.tk_expr.proofs.Continuations.{Behind, Via, after_disjunction, after_conjunction, after_comparison, comparing, after_sum, after_product, after_signed, after_postfix, after_primary, wants, in_bracket, ends_in}
@@ -62,7 +62,7 @@ module _ (font : FontUnits) where
   abbrev pub Passes : Behind → Type 0
   Passes k = (x : Found) (ps qs : List Piece) → Alike ps qs → k x ps → k x qs
 
-  goes_alike : {l : Level} {x y : Found} {ps qs rs : List Piece} (k : Behind) → Passes k → Alike ps qs → Goes font l x ps y rs → k y rs → Via (Goes font l x qs) k
+  goes_alike : {l : Precedence} {x y : Found} {ps qs rs : List Piece} (k : Behind) → Passes k → Alike ps qs → Goes font l x ps y rs → k y rs → Via (Goes font l x qs) k
   goes_alike {x = x} {ps = ps} {qs = qs} k pass e stays h = record { value = _; rest = _; read = stays; goes = pass x ps qs e h }
   goes_alike k pass e (on_unit b r) h = record { value = _; rest = _; read = on_unit (sym e ∙ b) r; goes = h }
   goes_alike k pass e (on_radians b r) h = record { value = _; rest = _; read = on_radians (sym e ∙ b) r; goes = h }

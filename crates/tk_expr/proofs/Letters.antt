@@ -7,55 +7,50 @@ use Rattle.std.proofs.lemmas.Bool.Decides.{nat_tests}
 use Rattle.std.proofs.lemmas.Slice.Eq.{bytes_eq-Decides}
 use Rattle.tk_token.proofs.Ascii.{front_and, back_and}
 use Rattle.tk_token.specs.Cutting.{is_letter}
-use Rattle.tk_token.specs.Token.{token_of}
 use Rattle.tk_token.specs.declared.Kind.{Kind}
 use Rattle.tk_token.specs.declared.Kind.TheVariants.{Char, Word, Symbol, Open, Close, Param, Arg, Space}
 use Rattle.tk_token.specs.declared.Tok.{Tok}
 use Rattle.tk_expr.specs.declared.pieces.Mark.TheVariants.{Word as Word_mark}
-use Rattle.tk_expr.specs.Pieces.{Lump, Run, with_letter, lumps_of, piece_of, pieces_of, word_mark, Row, rows, mark_in}
-use Rattle.tk_expr.specs.Runs.{is_letter_kind, is_letter_tok, letter_of, letter_of_kind}
-
--- the lumps of tokens whose words go by their names
-lumps : List (List ℕ) → List Tok → List Lump
-lumps names toks = lumps_of (map (token_of names) toks)
+use Rattle.tk_expr.specs.Pieces.{Letters, with_letter, lumps_of, piece_of, pieces_of, word_mark, Row, rows, mark_in}
+use Rattle.tk_expr.specs.Letters.{is_letter_kind, is_letter_tok, letter_of, letter_of_kind}
 
 -- a letter before tokens joins the letters in front of them
-abbrev Joins : List (List ℕ) → List Tok → Type 0
-Joins names ts = (c at : ℕ) → with_letter c at (lumps_of (map (token_of names) ts)) ≡ Run (c ∷ map letter_of (take (prefix_len is_letter_tok ts) ts)) at ∷ lumps_of (map (token_of names) (drop (prefix_len is_letter_tok ts) ts))
+abbrev Joins : List Tok → Type 0
+Joins ts = (c at : ℕ) → with_letter c at (lumps_of ts) ≡ Letters (c ∷ map letter_of (take (prefix_len is_letter_tok ts) ts)) at ∷ lumps_of (drop (prefix_len is_letter_tok ts) ts)
 
-join_char : (names : List (List ℕ)) (d place : ℕ) (us : List Tok) (b : Bool) → is_letter d ≡ b → Joins names us → Joins names (record { kind = Char d; at = place } ∷ us)
-join_char names d place us true e ih c at = rw (e, one-add) (ap (with_letter c at) (ih d place))
-join_char names d place us false e ih c at = rw (e, e) refl
+join_char : (d place : ℕ) (us : List Tok) (b : Bool) → is_letter d ≡ b → Joins us → Joins (record { kind = Char d; at = place } ∷ us)
+join_char d place us true e ih c at = rw (e, one-add) (ap (with_letter c at) (ih d place))
+join_char d place us false e ih c at = rw (e, e) refl
 
-join_kind : (names : List (List ℕ)) (kind : Kind) (place : ℕ) (us : List Tok) → Joins names us → Joins names (record { kind = kind; at = place } ∷ us)
-join_kind names (Char d) place us ih c at = join_char names d place us (is_letter d) refl ih c at
-join_kind names (Word n) place us ih c at = refl
-join_kind names (Symbol d) place us ih c at = refl
-join_kind names Open place us ih c at = refl
-join_kind names Close place us ih c at = refl
-join_kind names Param place us ih c at = refl
-join_kind names (Arg n) place us ih c at = refl
-join_kind names Space place us ih c at = refl
+join_kind : (kind : Kind) (place : ℕ) (us : List Tok) → Joins us → Joins (record { kind = kind; at = place } ∷ us)
+join_kind (Char d) place us ih c at = join_char d place us (is_letter d) refl ih c at
+join_kind (Word n) place us ih c at = refl
+join_kind (Symbol d) place us ih c at = refl
+join_kind Open place us ih c at = refl
+join_kind Close place us ih c at = refl
+join_kind Param place us ih c at = refl
+join_kind (Arg n) place us ih c at = refl
+join_kind Space place us ih c at = refl
 
-joins : (names : List (List ℕ)) (ts : List Tok) → Joins names ts
-joins names [] c at = refl
-joins names (t ∷ ts) c at = join_kind names t.kind t.at ts (joins names ts) c at
+joins : (ts : List Tok) → Joins ts
+joins [] c at = refl
+joins (t ∷ ts) c at = join_kind t.kind t.at ts (joins ts) c at
 
-run_of : (names : List (List ℕ)) (kind : Kind) (at : ℕ) (ts : List Tok) → is_letter_kind kind ≡ true
-    → lumps_of (map (token_of names) (record { kind = kind; at = at } ∷ ts)) ≡ Run (map letter_of (take (prefix_len is_letter_tok (record { kind = kind; at = at } ∷ ts)) (record { kind = kind; at = at } ∷ ts))) at ∷ lumps_of (map (token_of names) (drop (prefix_len is_letter_tok (record { kind = kind; at = at } ∷ ts)) (record { kind = kind; at = at } ∷ ts)))
-run_of names (Char c) at ts e = rw (e, one-add) (joins names ts c at)
-run_of names (Word n) at ts e = absurd (cc)
-run_of names (Symbol d) at ts e = absurd (cc)
-run_of names Open at ts e = absurd (cc)
-run_of names Close at ts e = absurd (cc)
-run_of names Param at ts e = absurd (cc)
-run_of names (Arg n) at ts e = absurd (cc)
-run_of names Space at ts e = absurd (cc)
+run_of : (kind : Kind) (at : ℕ) (ts : List Tok) → is_letter_kind kind ≡ true
+    → lumps_of (record { kind = kind; at = at } ∷ ts) ≡ Letters (map letter_of (take (prefix_len is_letter_tok (record { kind = kind; at = at } ∷ ts)) (record { kind = kind; at = at } ∷ ts))) at ∷ lumps_of (drop (prefix_len is_letter_tok (record { kind = kind; at = at } ∷ ts)) (record { kind = kind; at = at } ∷ ts))
+run_of (Char c) at ts e = rw (e, one-add) (joins ts c at)
+run_of (Word n) at ts e = absurd (cc)
+run_of (Symbol d) at ts e = absurd (cc)
+run_of Open at ts e = absurd (cc)
+run_of Close at ts e = absurd (cc)
+run_of Param at ts e = absurd (cc)
+run_of (Arg n) at ts e = absurd (cc)
+run_of Space at ts e = absurd (cc)
 
 -- a letter in front makes a piece with the letters behind it
-pub letters_in_front : (names : List (List ℕ)) (list : List Tok) (t : Tok) (ts : List Tok) (n : ℕ) → list ≡ t ∷ ts → is_letter_kind t.kind ≡ true → n ≡ prefix_len is_letter_tok list
-    → pieces_of (map (token_of names) list) ≡ record { mark = word_mark (map letter_of (take n list)); at = t.at } ∷ pieces_of (map (token_of names) (drop n list))
-letters_in_front names list t ts n is letter count = rw (count, is) (ap (map piece_of) (run_of names t.kind t.at ts letter))
+pub letters_in_front : (list : List Tok) (t : Tok) (ts : List Tok) (n : ℕ) → list ≡ t ∷ ts → is_letter_kind t.kind ≡ true → n ≡ prefix_len is_letter_tok list
+    → pieces_of list ≡ record { mark = word_mark (map letter_of (take n list)); at = t.at } ∷ pieces_of (drop n list)
+letters_in_front list t ts n is letter count = rw (count, is) (ap (map piece_of) (run_of t.kind t.at ts letter))
 
 small_letter : (c : ℕ) → is_letter c ≡ true → c < 128
 small_letter c h = grind (arith, nat_tests)

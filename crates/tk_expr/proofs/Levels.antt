@@ -13,7 +13,7 @@ use Rattle.tk_expr.specs.declared.machine.Bracket.{Bracket}
 use Rattle.tk_expr.specs.declared.machine.Bracket.TheVariants.{Plain, Only, First, Second, Each}
 use Rattle.tk_expr.specs.declared.machine.Frame.{Frame}
 use Rattle.tk_expr.specs.declared.machine.Frame.TheVariants.{Inside, Then, Else}
-use Rattle.tk_expr.specs.Grammar.{piece, skip, past_gap, prefix_of, exponent_sign, Level, Postfixes, Powers, Products, Sums, Comparisons, Conjunctions, Disjunctions, Begins}
+use Rattle.tk_expr.specs.Grammar.{piece, skip, past_gap, prefix_of, exponent_sign, Precedence, Postfixes, Powers, Products, Sums, Comparisons, Conjunctions, Disjunctions, Begins}
 use Rattle.tk_expr.specs.Machine.{Found, no_signs, nothing, with_prefix, signed_found, applied, powered, multiplied, added, compared, conjoined, disjoined, choice_found}
 use Rattle.tk_expr.proofs.Readings.{prefixed_found, Whole, whole, unasked, group, Part, primary_part, postfix_part, prefixed_part, product_part, sum_part, comparison_part, conjunction_part, Goes, stays, sign_before, no_sign_before, Exponential, exponent_sign_before, bare_exponent, Primary, Further, no_further, one_further}
 use Rattle.tk_expr.proofs.Continuations.{Behind, Via, after_disjunction, after_conjunction, after_comparison, comparing, after_sum, after_product, after_unsigned, after_signed, after_postfix, after_primary, wants, closes, in_bracket, ends_in}
@@ -28,7 +28,7 @@ pub via_map : (r k l : Behind) → ((x : Found) (ps : List Piece) → k x ps →
 via_map r k l f v = record { value = v.value; rest = v.rest; read = v.read; goes = f v.value v.rest v.goes }
 
 module _ (font : FontUnits) where
-  pub stays_via : (l : Level) (k : Behind) (x : Found) (ps : List Piece) → k x ps → Via (Goes font l x ps) k
+  pub stays_via : (l : Precedence) (k : Behind) (x : Found) (ps : List Piece) → k x ps → Via (Goes font l x ps) k
   stays_via l k x ps h = record { value = x; rest = ps; read = stays; goes = h }
 
   -- ---- what waits is settled
@@ -68,14 +68,14 @@ module _ (font : FontUnits) where
 
   -- ---- a mark that is no operator of a level
 
-  abbrev pub IsNot : Level → Mark → Type 1
+  abbrev pub IsNot : Precedence → Mark → Type 1
   IsNot l m = (k : Behind) (x : Found) (at : ℕ) (ps : List Piece) → OperatorAt font l k x m at ps → ⊥
 
   abbrev pub Refuses : Mark → Behind → Type 0
   Refuses m k = (x : Found) (at : ℕ) (ps : List Piece) → k x (piece m at ∷ ps) → ⊥
 
   module _ (m : Mark) (g : is_gap m ≡ false) where
-    pub past : (l : Level) → IsNot l m → (k : Behind) (x : Found) (at : ℕ) (ps : List Piece) → Via (Goes font l x (piece m at ∷ ps)) k → k x (piece m at ∷ ps)
+    pub past : (l : Precedence) → IsNot l m → (k : Behind) (x : Found) (at : ℕ) (ps : List Piece) → Via (Goes font l x (piece m at ∷ ps)) k → k x (piece m at ∷ ps)
     past l non k x at ps h = only_left (non k x at ps) (operator_in font m at ps k g h)
 
     past_comparing : IsNot Comparisons m → (w : Option Waiting) (k : Behind) (x : Found) (at : ℕ) (ps : List Piece) → comparing font w k x (piece m at ∷ ps) → k (applied w x) (piece m at ∷ ps)

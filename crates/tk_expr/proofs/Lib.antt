@@ -3,6 +3,7 @@ pub mod Closing
 pub mod Continuations
 pub mod Decimals
 pub mod Ends
+pub mod Evaluations
 pub mod Finishing
 pub mod Fronts
 pub mod Gaps
@@ -18,7 +19,7 @@ pub mod ProperPieces
 pub mod Readings
 pub mod Roots
 pub mod Runs
-pub mod Shifts
+pub mod ShortWay
 pub mod SignRuns
 pub mod Stacks
 pub mod Stepping

@@ -2,7 +2,7 @@
 use Rattle.std.proofs.Common.{◌≡◌, ℕ, List, [], ◌∷◌, ◌++◌, drop, refl, sym, ap, ap₂, subst, ◌∙◌, arith, append_assoc, append-nil}
 use Rattle.tk_token.specs.declared.Code.TheVariants.{TooDeep, Expression}
 use Rattle.tk_token.specs.Answers.{Answer, fault}
-use Rattle.tk_token.specs.Token.{Token}
+use Rattle.tk_token.specs.declared.Tok.{Tok}
 use Rattle.tk_expr.specs.declared.FontUnits.{FontUnits}
 use Rattle.tk_expr.specs.declared.Value.{Value}
 use Rattle.tk_expr.specs.declared.pieces.Mark.{Mark}
@@ -10,8 +10,7 @@ use Rattle.tk_expr.specs.declared.pieces.Piece.{Piece}
 use Rattle.tk_expr.specs.Tree.{Tree}
 use Rattle.tk_expr.specs.Grammar.{IsText}
 use Rattle.tk_expr.specs.Faults.{IsBeginning, Opener, Call, unanswered, open_in, IsShallow, IsMiscount, too_many, too_few}
-use Rattle.tk_expr.specs.Evaluates.{has_unit, valued, IsMisfit, IsTooDeep, Answers, evaluates, misfit, miscount, too_deep, ends, Evaluates}
-use Rattle.tk_expr.specs.Evaluated.{end_of}
+use Rattle.tk_expr.specs.Evaluates.{has_unit, valued, IsMisfit, IsTooDeep, IsAnswer, evaluates, misfit, miscount, too_deep, ends, end_of, Evaluates}
 use Rattle.tk_expr.specs.Pieces.{pieces_of}
 use Rattle.tk_expr.proofs.ProperPieces.{AllProper, proper}
 use Rattle.tk_expr.proofs.Runs.{one_text}
@@ -114,7 +113,7 @@ module _ (font : FontUnits) (end : ℕ) (ps : List Piece) (all : AllProper ps) w
   name_at : {m n : ℕ} → m ≡ n → let a : Answer Value = fault Expression m in a ≡ fault Expression n
   name_at e = ap (λ (n : ℕ). let a : Answer Value = fault Expression n in a) e
 
-  pub one_answer : {a b : Answer Value} → Answers font end ps a → Answers font end ps b → a ≡ b
+  pub one_answer : {a b : Answer Value} → IsAnswer font end ps a → IsAnswer font end ps b → a ≡ b
   one_answer (evaluates {t = t} i s) (evaluates {t = u} j r) = ap (valued (has_unit ps)) (one_text font ps t u all i j)
   one_answer (evaluates {t = t} i s) (misfit m n) = absurd (misfit_refutes ps m (text_begins ps t i))
   one_answer (evaluates {t = t} i s) (miscount m n) = absurd (misfit_refutes ps m (text_begins ps t i))
@@ -142,5 +141,5 @@ module _ (font : FontUnits) (end : ℕ) (ps : List Piece) (all : AllProper ps) w
   one_answer (ends b r h) (ends c s k) = refl
 
 -- no tokens have two answers
-pub a_text_has_one_answer : (font : FontUnits) (at : ℕ) (tokens : List Token) (a b : Answer Value) → Evaluates font at tokens a → Evaluates font at tokens b → a ≡ b
-a_text_has_one_answer font at tokens a b i j = one_answer font (end_of at tokens) (pieces_of tokens) (proper tokens) i j
+pub a_text_has_one_answer : (font : FontUnits) (at : ℕ) (toks : List Tok) (a b : Answer Value) → Evaluates font at toks a → Evaluates font at toks b → a ≡ b
+a_text_has_one_answer font at toks a b i j = one_answer font (end_of at toks) (pieces_of toks) (proper toks) i j

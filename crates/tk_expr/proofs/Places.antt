@@ -1,5 +1,5 @@
 -- Where the faults of expressions, pairs and vectors stand: what holds of the places of all tokens holds of theirs.
-use Rattle.std.proofs.Common.{ℕ, zero, suc, ◌+◌, ◌*◌, ◌≤◌, Bool, true, false, cond, List, [], ◌∷◌, length, take, drop, map, Option, Some, None, is_some, unwrap_or, Result, Ok, Err, IfErr, ℤ, nat_lt}
+use Rattle.std.proofs.Common.{◌≡◌, inl, inr, refl, sym, subst, ℕ, zero, suc, ◌+◌, ◌*◌, Bool, true, false, cond, List, [], ◌∷◌, length, drop, map, Option, Some, None, is_some, unwrap_or, Result, Ok, Err, IfErr, IfSome, ℤ, nat_lt}
 use Rattle.std.specs.List.{AllByRecursion, prefix_len, list_all}
 use Rattle.tk_num.specs.Number.{scaled, product}
 use Rattle.tk_num.specs.Angle.{sine, cosine}
@@ -8,7 +8,14 @@ use Rattle.tk_item.specs.declared.Point.{Point}
 use Rattle.tk_token.specs.declared.Fault.{Fault}
 use Rattle.tk_token.specs.Answers.{Answer, ◌>>=◌}
 use Rattle.tk_token.specs.Cutting.{is_letter}
-use Rattle.tk_token.specs.Token.{Sign, A_char, Token}
+use Rattle.tk_token.specs.declared.Kind.{Kind}
+use Rattle.tk_token.specs.declared.Kind.TheVariants.{Char}
+use Rattle.tk_token.specs.declared.Tok.{Tok}
+use Rattle.tk_token.specs.Characters as characters
+use Rattle.tk_token.specs.Groups.{Cut, first_outside, before_char, group_of}
+use Rattle.tk_token.specs.Kinds.{is_open, begins_and}
+use Rattle.tk_token.specs.Spaces.{is_space_token, after_spaces}
+use Rattle.tk_token.proofs.Outside.{first_outside_keeps, before_char_keeps, group_keeps}
 use Rattle.tk_expr.specs.declared.FontUnits.{FontUnits}
 use Rattle.tk_expr.specs.declared.Value.{Value}
 use Rattle.tk_expr.specs.declared.ValuePair.{ValuePair}
@@ -32,10 +39,12 @@ use Rattle.tk_expr.specs.declared.machine.Mode.{Mode}
 use Rattle.tk_expr.specs.declared.machine.Mode.TheVariants.{Wanted, Ordered, Half, Named, Dot, Number, Measured, After}
 use Rattle.tk_expr.specs.Number.{Decimal, no_digits, with_digit, with_whole_digit, with_point, plain_value}
 use Rattle.tk_expr.specs.Values.{placed}
-use Rattle.tk_expr.specs.Machine.{Found, State, signed_found, applied, powered, multiplied, added, compared, conjoined, disjoined, product_waits, sum_waits, comparison_waits, waits, waiting_or_same, Closed, choice_found, closed, closed_behind, wanted_in, opened, most_found, bracket_ends, right, bracket_goes_on, comma, colon, to_mode, sign_exponent, sign_operand, begin, ordered, is_half, half, named, operator, comparison, after, dot, measured, number, step_in, step, start, run, operand, value_in, finish_behind, finish}
-use Rattle.tk_expr.specs.Pieces.{Lump, Run, Alone, with_letter, with_sign, lumps_of, piece_of, pieces_of}
-use Rattle.tk_expr.specs.Evaluated.{end_of, evaluated}
-use Rattle.tk_expr.specs.Pairs.{is_comma, is_and, is_comma_or_colon, find_outside, is_space_token, is_open, after_spaces, closing, group_at, group, part, part_value, plane, radii, polar, formed, formed_at, paired, length_along, vector_of}
+use Rattle.tk_expr.specs.Machine.{Found, State, signed_found, applied, powered, multiplied, added, compared, conjoined, disjoined, product_waits, sum_waits, comparison_waits, waits, waiting_or_same, Closed, choice_found, closed, closed_behind, wanted_in, opened, most_found, bracket_ends, at_right, bracket_goes_on, at_comma, at_colon, to_mode, sign_exponent, sign_operand, begin, ordered, is_half, half, named, operator, comparison, after, dot, measured, number, step_in, step, start, run, operand, value_in, finish_behind, finish}
+use Rattle.tk_expr.specs.Pieces.{Lump, Letters, Alone, with_letter, with_token, lumps_of, piece_of, pieces_of}
+use Rattle.tk_expr.specs.Evaluated.{evaluated}
+use Rattle.tk_expr.specs.Evaluates.{end_of}
+use Rattle.tk_expr.specs.Places.{IsPlaceOf}
+use Rattle.tk_expr.specs.Pairs.{alone, contents, part, part_value, plane, radii, polar, by_colon, by_comma, paired, length_along, vector_of}
 
 module _ {A : Type 0} where
   -- what holds at a value, and at a fault
@@ -225,7 +234,7 @@ module _ (Good : ℕ → Type 0) where
   ends_fine at (Second f name x) v p fs s e k h i j = outside_fine _ p fs s (fine_then x _ k.1 (λ _. fine_then v _ h (λ _. placed_fine name _ k.0))) i j
   ends_fine at (Each f x) v p fs s e k h i j = outside_fine _ p fs s (most_fine f x v k h) i j
 
-  right_fine : (at : ℕ) (v : Found) (fs : List Frame) (s : State) → Good at → Fine v → FramesFine fs → Stays (right at v fs s)
+  right_fine : (at : ℕ) (v : Found) (fs : List Frame) (s : State) → Good at → Fine v → FramesFine fs → Stays (at_right at v fs s)
   right_fine at v [] s e h k = e
   right_fine at v (Inside bracket saved ∷ fs) s e h k = ends_fine at bracket v saved fs s e k.0.0 h k.0.1 k.1
   right_fine at v (Then c ∷ fs) s e h k = e
@@ -238,13 +247,13 @@ module _ (Good : ℕ → Type 0) where
   goes_on_fine at (Second f name x) v p fs s e k h i j = k.0
   goes_on_fine at (Each f x) v p fs s e k h i j = nothing_fine (Inside (Each f (Some (most_found f x v))) p ∷ fs) s ((most_fine f x v k h, i), j)
 
-  comma_fine : (at : ℕ) (v : Found) (fs : List Frame) (s : State) → Good at → Fine v → FramesFine fs → Stays (comma at v fs s)
+  comma_fine : (at : ℕ) (v : Found) (fs : List Frame) (s : State) → Good at → Fine v → FramesFine fs → Stays (at_comma at v fs s)
   comma_fine at v [] s e h k = e
   comma_fine at v (Inside bracket saved ∷ fs) s e h k = goes_on_fine at bracket v saved fs s e k.0.0 h k.0.1 k.1
   comma_fine at v (Then c ∷ fs) s e h k = e
   comma_fine at v (Else c x ∷ fs) s e h k = e
 
-  colon_fine : (at : ℕ) (v : Found) (fs : List Frame) (s : State) → Good at → Fine v → FramesFine fs → Stays (colon at v fs s)
+  colon_fine : (at : ℕ) (v : Found) (fs : List Frame) (s : State) → Good at → Fine v → FramesFine fs → Stays (at_colon at v fs s)
   colon_fine at v [] s e h k = e
   colon_fine at v (Inside bracket saved ∷ fs) s e h k = e
   colon_fine at v (Then c ∷ fs) s e h k = nothing_fine (Else c v ∷ fs) s ((k.0, h), k.1)
@@ -388,104 +397,119 @@ module _ (Good : ℕ → Type 0) where
 
   -- ---- tokens
 
-  abbrev Within : List Token → Type 0
-  Within ts = AllByRecursion (λ (t : Token). Good t.at) ts
+  abbrev pub Within : List Tok → Type 0
+  Within ts = AllByRecursion (λ (t : Tok). Good t.at) ts
 
   abbrev LumpFine : Lump → Type 0
-  LumpFine (Run text at) = Good at
-  LumpFine (Alone sign at) = Good at
+  LumpFine (Letters text at) = Good at
+  LumpFine (Alone kind at) = Good at
 
   abbrev LumpsFine : List Lump → Type 0
   LumpsFine lumps = AllByRecursion LumpFine lumps
 
   letter_fine : (c at : ℕ) (lumps : List Lump) → Good at → LumpsFine lumps → LumpsFine (with_letter c at lumps)
   letter_fine c at [] e h = (e, h)
-  letter_fine c at (Run text place ∷ lumps) e h = (e, h.1)
-  letter_fine c at (Alone sign place ∷ lumps) e h = (e, h)
+  letter_fine c at (Letters text place ∷ lumps) e h = (e, h.1)
+  letter_fine c at (Alone kind place ∷ lumps) e h = (e, h)
 
-  char_fine : (c at : ℕ) (lumps : List Lump) (b : Bool) → Good at → LumpsFine lumps → LumpsFine (cond b (with_letter c at lumps) (Alone (A_char c) at ∷ lumps))
+  char_fine : (c at : ℕ) (lumps : List Lump) (b : Bool) → Good at → LumpsFine lumps → LumpsFine (cond b (with_letter c at lumps) (Alone (Char c) at ∷ lumps))
   char_fine c at lumps true e h = letter_fine c at lumps e h
   char_fine c at lumps false e h = (e, h)
 
-  sign_fine : (sign : Sign) (at : ℕ) (lumps : List Lump) → Good at → LumpsFine lumps → LumpsFine (with_sign sign at lumps)
-  sign_fine (A_char c) at lumps e h = char_fine c at lumps (is_letter c) e h
-  sign_fine _ at lumps e h = (e, h)
+  token_fine : (kind : Kind) (at : ℕ) (lumps : List Lump) → Good at → LumpsFine lumps → LumpsFine (with_token kind at lumps)
+  token_fine (Char c) at lumps e h = char_fine c at lumps (is_letter c) e h
+  token_fine _ at lumps e h = (e, h)
 
-  lumps_fine : (ts : List Token) → Within ts → LumpsFine (lumps_of ts)
+  lumps_fine : (ts : List Tok) → Within ts → LumpsFine (lumps_of ts)
   lumps_fine [] h = tt
-  lumps_fine (t ∷ ts) h = sign_fine t.sign t.at (lumps_of ts) h.0 (lumps_fine ts h.1)
+  lumps_fine (t ∷ ts) h = token_fine t.kind t.at (lumps_of ts) h.0 (lumps_fine ts h.1)
 
   pieces_fine : (lumps : List Lump) → LumpsFine lumps → PiecesFine (map piece_of lumps)
   pieces_fine [] h = tt
-  pieces_fine (Run text at ∷ lumps) h = (h.0, pieces_fine lumps h.1)
-  pieces_fine (Alone sign at ∷ lumps) h = (h.0, pieces_fine lumps h.1)
+  pieces_fine (Letters text at ∷ lumps) h = (h.0, pieces_fine lumps h.1)
+  pieces_fine (Alone kind at ∷ lumps) h = (h.0, pieces_fine lumps h.1)
 
-  end_fine : (at : ℕ) (ts : List Token) → Good at → Within ts → Good (end_of at ts)
+  end_fine : (at : ℕ) (ts : List Tok) → Good at → Within ts → Good (end_of at ts)
   end_fine at [] e h = e
   end_fine at (t ∷ ts) e h = end_fine t.at ts h.0 h.1
 
-  evaluated_fine : (font : FontUnits) (at : ℕ) (ts : List Token) → Good at → Within ts → Fine (evaluated font at ts)
+  evaluated_fine : (font : FontUnits) (at : ℕ) (ts : List Tok) → Good at → Within ts → Fine (evaluated font at ts)
   unfolding evaluated
   evaluated_fine font at ts e h = holds_then StateFine (λ _. Unit {0}) Early (run font start (pieces_of ts)) _ (run_fine font start (pieces_of ts) (pieces_fine (lumps_of ts) (lumps_fine ts h)) (nothing_fine [] start tt)) (λ s k. finish_fine font (end_of at ts) s (end_fine at ts e h) k)
 
   -- ---- pairs
 
-  dropped : (k : ℕ) (ts : List Token) → Within ts → Within (drop k ts)
+  dropped : (k : ℕ) (ts : List Tok) → Within ts → Within (drop k ts)
   dropped zero ts h = h
   dropped (suc k) [] h = tt
   dropped (suc k) (t ∷ ts) h = dropped k ts h.1
 
-  taken : (k : ℕ) (ts : List Token) → Within ts → Within (take k ts)
-  taken zero ts h = tt
-  taken (suc k) [] h = tt
-  taken (suc k) (t ∷ ts) h = (h.0, taken k ts h.1)
-
-  abbrev AllSome : Option (List Token) → Type 0
+  abbrev AllSome : Option (List Tok) → Type 0
   AllSome None = Unit {0}
   AllSome (Some ts) = Within ts
 
-  closed_within : (ts : List Token) (b : Bool) (n : ℕ) → Within ts → AllSome (cond b (Some (take n ts)) None)
-  closed_within ts true n h = taken n ts h
-  closed_within ts false n h = tt
+  -- the parts of a cut
+  abbrev CutFine : Option Cut → Type 0
+  CutFine found = IfSome found (λ (c : Cut). Within c.front × Within c.rest)
 
-  group_at_within : (ts : List Token) (n : Option ℕ) → Within ts → AllSome (group_at ts n)
-  group_at_within ts None h = tt
-  group_at_within ts (Some n) h = closed_within ts (list_all is_space_token (drop (n + 1) ts)) n h
+  some_if : (b : Bool) (ts : List Tok) → Within ts → AllSome (cond b (Some ts) None)
+  some_if true ts h = h
+  some_if false ts h = tt
 
-  some_if : (b : Bool) (o : Option (List Token)) → AllSome o → AllSome (cond b o None)
-  some_if true o h = h
-  some_if false o h = tt
+  alone_within : (found : Option Cut) → CutFine found → AllSome (alone found)
+  alone_within None h = tt
+  alone_within (Some c) h = some_if (list_all is_space_token c.rest) c.front h.0
 
-  group_within : (ts : List Token) → Within ts → AllSome (group ts)
-  group_within [] h = tt
-  group_within (t ∷ ts) h = some_if (is_open t.sign) (group_at ts (closing 1 ts)) (group_at_within ts (closing 1 ts) h.1)
+  group_if : (b : Bool) (o : Option (List Tok)) → AllSome o → AllSome (cond b o None)
+  group_if true o h = h
+  group_if false o h = tt
 
-  or_within : (o : Option (List Token)) (ts : List Token) → AllSome o → Within ts → Within (unwrap_or o ts)
+  contents_within : (ts : List Tok) → Within ts → AllSome (contents ts)
+  contents_within [] h = tt
+  contents_within (t ∷ ts) h = group_if (is_open t.kind) (alone (group_of ts)) (alone_within (group_of ts) (group_keeps (λ (t : Tok). Good t.at) ts h.1))
+
+  or_within : (o : Option (List Tok)) (ts : List Tok) → AllSome o → Within ts → Within (unwrap_or o ts)
   or_within None ts h k = k
   or_within (Some us) ts h k = h
 
-  part_within : (ts : List Token) → Within ts → Within (part ts)
+  part_within : (ts : List Tok) → Within ts → Within (part ts)
   unfolding part
-  part_within ts h = or_within (group (after_spaces ts)) ts (group_within (after_spaces ts) (dropped (prefix_len is_space_token ts) ts h)) h
+  part_within ts h = or_within (contents (after_spaces ts)) ts (contents_within (after_spaces ts) (dropped (prefix_len is_space_token ts) ts h)) h
 
-  value_within : (font : FontUnits) (at : ℕ) (ts : List Token) → Good at → Within ts → Fine (part_value font at ts)
-  value_within font at ts e h = evaluated_fine font at (part ts) e (part_within ts h)
+  module _ (font : FontUnits) (at : ℕ) (here : Good at) where
+    value_within : (ts : List Tok) → Within ts → Fine (part_value evaluated font at ts)
+    value_within ts h = evaluated_fine font at (part ts) here (part_within ts h)
 
-  plane_within : (font : FontUnits) (at : ℕ) (front back : List Token) → Good at → Within front → Within back → Fine (plane font at front back)
-  unfolding plane
-  plane_within font at front back e h k = holds_if (λ _. Unit {0}) Early (is_some (find_outside is_comma back)) _ _ e (fine_then (part_value font at front) _ (value_within font at front e h) (λ x. fine_then (part_value font at back) _ (value_within font at back e k) (λ y. tt)))
+    plane_within : (front back : List Tok) → Within front → Within back → Fine (plane evaluated font at front back)
+    unfolding plane
+    plane_within front back h k =
+        holds_if (λ _. Unit {0}) Early (is_some (before_char characters.comma back)) _ _ here
+        (fine_then (part_value evaluated font at front) _ (value_within front h)
+        (λ x. fine_then (part_value evaluated font at back) _ (value_within back k) (λ y. tt)))
 
-  radii_within : (font : FontUnits) (at : ℕ) (angle : ℤ) (back : List Token) (n : Option ℕ) → Good at → Within back → Fine (radii font at angle back n)
-  radii_within font at angle back None e h = fine_then (part_value font at back) _ (value_within font at back e h) (λ r. tt)
-  radii_within font at angle back (Some n) e h = fine_then (part_value font at (take n back)) _ (value_within font at (take n back) e (taken n back h)) (λ r. fine_then (part_value font at (drop (n + 3) back)) _ (value_within font at (drop (n + 3) back) e (dropped (n + 3) back h)) (λ s. tt))
+    radii_within : (angle : ℤ) (back : List Tok) (found : Option Cut) → Within back → CutFine found → Fine (radii evaluated font at angle back found)
+    radii_within angle back None h k = fine_then (part_value evaluated font at back) _ (value_within back h) (λ r. tt)
+    radii_within angle back (Some c) h k =
+        fine_then (part_value evaluated font at c.front) _ (value_within c.front k.0)
+        (λ r. fine_then (part_value evaluated font at (drop 3 c.rest)) _ (value_within (drop 3 c.rest) (dropped 3 c.rest k.1)) (λ s. tt))
 
-  polar_within : (font : FontUnits) (at : ℕ) (front back : List Token) → Good at → Within front → Within back → Fine (polar font at front back)
-  unfolding polar
-  polar_within font at front back e h k = fine_then (evaluated font at front) _ (evaluated_fine font at front e h) (λ angle. radii_within font at angle.number back (find_outside is_and back) e k)
+    polar_within : (front back : List Tok) → Within front → Within back → Fine (polar evaluated font at front back)
+    unfolding polar
+    polar_within front back h k =
+        fine_then (evaluated font at front) _ (evaluated_fine font at front here h)
+        (λ angle. radii_within angle.number back (first_outside begins_and back) k (first_outside_keeps (λ (t : Tok). Good t.at) begins_and back k))
 
-  formed_within : (font : FontUnits) (at : ℕ) (ts : List Token) (n : Option ℕ) → Good at → Within ts → Fine (formed_at font at ts n)
-  formed_within font at ts None e h = tt
-  formed_within font at ts (Some n) e h = fine_then (formed font at ts n) _ (holds_if (λ _. Unit {0}) Early (is_comma (drop n ts)) _ _ (plane_within font at (take n ts) (drop (n + 1) ts) e (taken n ts h) (dropped (n + 1) ts h)) (polar_within font at (take n ts) (drop (n + 1) ts) e (taken n ts h) (dropped (n + 1) ts h))) (λ pair. tt)
+    by_colon_within : (found : Option Cut) → CutFine found → Fine (by_colon evaluated font at found)
+    by_colon_within None h = tt
+    by_colon_within (Some c) h = fine_then (polar evaluated font at c.front c.rest) _ (polar_within c.front c.rest h.0 h.1) (λ pair. tt)
+
+    by_comma_within : (ts : List Tok) (found : Option Cut) → Within ts → CutFine found → Fine (by_comma evaluated font at ts found)
+    by_comma_within ts None h k = by_colon_within (before_char characters.colon ts) (before_char_keeps (λ (t : Tok). Good t.at) characters.colon ts h)
+    by_comma_within ts (Some c) h k = fine_then (plane evaluated font at c.front c.rest) _ (plane_within c.front c.rest k.0 k.1) (λ pair. tt)
+
+    pub paired_within : (ts : List Tok) → Within ts → Fine (paired evaluated font at ts)
+    unfolding paired
+    paired_within ts h = by_comma_within ts (before_char characters.comma ts) h (before_char_keeps (λ (t : Tok). Good t.at) characters.comma ts h)
 
   along_within : (vector : ℤ) (at : ℕ) (v : Value) → Good at → Fine (length_along vector at v)
   along_within vector at v e = holds_if (λ _. Unit {0}) Early v.unit _ _ tt (placed_fine at _ e)
@@ -496,21 +520,53 @@ two_placed Good at (Ok a) (Ok b) e = tt
 two_placed Good at (Ok a) (Err f) e = e
 two_placed Good at (Err f) b e = e
 
--- what holds of all places of a text and of its own holds of the place of a pair's fault
-pub paired_at : (font : FontUnits) (at : ℕ) (ts : List Token) (Good : ℕ → Type 0) → Good at → AllByRecursion (λ (t : Token). Good t.at) ts → IfErr (paired font at ts) (λ (f : Fault). Good f.at)
-unfolding paired
-paired_at font at ts Good e h = only_fault (λ _. Unit {0}) (Early Good) (formed_at font at ts (find_outside is_comma_or_colon ts)) (formed_within Good font at ts (find_outside is_comma_or_colon ts) e h)
+-- ---- what holds of the places of a text holds of the place of a fault
 
--- no fault of a pair stands past all places of its text and its own
-pub paired_within : (font : FontUnits) (at : ℕ) (ts : List Token) (bound : ℕ) → at ≤ bound → AllByRecursion (λ (t : Token). t.at ≤ bound) ts → IfErr (paired font at ts) (λ (f : Fault). f.at ≤ bound)
-paired_within font at ts bound e h = paired_at font at ts (λ n. n ≤ bound) e h
+pub evaluated_at : (font : FontUnits) (at : ℕ) (ts : List Tok) (Good : ℕ → Type 0) → Good at → Within Good ts → IfErr (evaluated font at ts) (λ (f : Fault). Good f.at)
+evaluated_at font at ts Good e h = only_fault (λ _. Unit {0}) (Early Good) (evaluated font at ts) (evaluated_fine Good font at ts e h)
 
--- what holds of its place holds of the place of a vector's fault
+pub paired_at : (font : FontUnits) (at : ℕ) (ts : List Tok) (Good : ℕ → Type 0) → Good at → Within Good ts → IfErr (paired evaluated font at ts) (λ (f : Fault). Good f.at)
+paired_at font at ts Good e h = only_fault (λ _. Unit {0}) (Early Good) (paired evaluated font at ts) (paired_within Good font at e ts h)
+
 pub vector_at : (x y : ℤ) (at : ℕ) (p : ValuePair) (Good : ℕ → Type 0) → Good at → IfErr (vector_of x y at p) (λ (f : Fault). Good f.at)
 unfolding vector_of
-vector_at x y at (Plane v w) Good e = only_fault (λ _. Unit {0}) (Early Good) _ (fine_then Good (length_along x at v) _ (along_within Good x at v e) (λ p. fine_then Good (length_along y at w) _ (along_within Good y at w e) (λ q. tt)))
-vector_at x y at (Polar angle v w) Good e = only_fault (λ _. Unit {0}) (Early Good) _ (fine_then Good (length_along x at v) _ (along_within Good x at v e) (λ r. fine_then Good (length_along y at w) _ (along_within Good y at w e) (λ s. two_placed Good at (scaled (product r (cosine angle))) (scaled (product s (sine angle))) e)))
+vector_at x y at (Plane v w) Good e =
+    only_fault (λ _. Unit {0}) (Early Good) _
+    (fine_then Good (length_along x at v) _ (along_within Good x at v e)
+    (λ p. fine_then Good (length_along y at w) _ (along_within Good y at w e) (λ q. tt)))
+vector_at x y at (Polar angle v w) Good e =
+    only_fault (λ _. Unit {0}) (Early Good) _
+    (fine_then Good (length_along x at v) _ (along_within Good x at v e)
+    (λ r. fine_then Good (length_along y at w) _ (along_within Good y at w e)
+    (λ s. two_placed Good at (scaled (product r (cosine angle))) (scaled (product s (sine angle))) e)))
 
--- no fault of a vector stands past its place
-pub vector_within : (x y : ℤ) (at : ℕ) (p : ValuePair) (bound : ℕ) → at ≤ bound → IfErr (vector_of x y at p) (λ (f : Fault). f.at ≤ bound)
-vector_within x y at p bound e = vector_at x y at p (λ n. n ≤ bound) e
+-- ---- places of a text
+
+-- the place of an empty text is one
+own_place : (at : ℕ) (ts : List Tok) → IsPlaceOf at ts at
+own_place at [] = refl
+own_place at (t ∷ ts) = inr (own_place at ts)
+
+-- those of some of its tokens are
+places_more : (at : ℕ) (t : Tok) (ts us : List Tok) → Within (IsPlaceOf at ts) us → Within (IsPlaceOf at (t ∷ ts)) us
+places_more at t ts [] h = tt
+places_more at t ts (u ∷ us) h = (inr h.0, places_more at t ts us h.1)
+
+all_places : (at : ℕ) (ts : List Tok) → Within (IsPlaceOf at ts) ts
+all_places at [] = tt
+all_places at (t ∷ ts) = (inl refl, places_more at t ts ts (all_places at ts))
+
+-- what holds of all of them holds of each
+pub place_holds : (at : ℕ) (ts : List Tok) (Good : ℕ → Type 0) → Good at → Within Good ts → (place : ℕ) → IsPlaceOf at ts place → Good place
+place_holds at [] Good e h place is = subst Good (sym is) e
+place_holds at (t ∷ ts) Good e h place (inl is) = subst Good (sym is) h.0
+place_holds at (t ∷ ts) Good e h place (inr is) = place_holds at ts Good e h.1 place is
+
+pub evaluated_stands : (font : FontUnits) (at : ℕ) (ts : List Tok) → IfErr (evaluated font at ts) (λ (f : Fault). IsPlaceOf at ts f.at)
+evaluated_stands font at ts = evaluated_at font at ts (IsPlaceOf at ts) (own_place at ts) (all_places at ts)
+
+pub paired_stands : (font : FontUnits) (at : ℕ) (ts : List Tok) → IfErr (paired evaluated font at ts) (λ (f : Fault). IsPlaceOf at ts f.at)
+paired_stands font at ts = paired_at font at ts (IsPlaceOf at ts) (own_place at ts) (all_places at ts)
+
+pub vector_stands : (x y : ℤ) (at : ℕ) (p : ValuePair) → IfErr (vector_of x y at p) (λ (f : Fault). f.at ≡ at)
+vector_stands x y at p = vector_at x y at p (λ (n : ℕ). n ≡ at) refl

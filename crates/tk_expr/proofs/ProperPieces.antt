@@ -4,11 +4,13 @@ use Rattle.std.specs.Char.{is_ascii_digit}
 use Rattle.std.specs.List.{AllByRecursion}
 use Rattle.std.specs.Str.{bytes_eq}
 use Rattle.tk_num.proofs.Digits.{digit_bounds}
-use Rattle.tk_token.specs.Token.{Sign, A_char, Opens, Closes, A_space, Token}
+use Rattle.tk_token.specs.declared.Kind.{Kind}
+use Rattle.tk_token.specs.declared.Kind.TheVariants.{Char, Open, Close, Space}
+use Rattle.tk_token.specs.declared.Tok.{Tok}
 use Rattle.tk_expr.specs.declared.pieces.Mark.{Mark}
 use Rattle.tk_expr.specs.declared.pieces.Mark.TheVariants.{Digit}
 use Rattle.tk_expr.specs.declared.pieces.Piece.{Piece}
-use Rattle.tk_expr.specs.Pieces.{Row, rows, mark_in, word_mark, sign_in, signs, char_mark, mark_of, Lump, Run, Alone, lumps_of, piece_of, pieces_of}
+use Rattle.tk_expr.specs.Pieces.{Row, rows, digit_zero, mark_in, word_mark, mark_at, signs, char_mark, mark_of, Lump, Letters, Alone, lumps_of, piece_of, pieces_of}
 use Rattle.tk_expr.proofs.Outcomes.{Proper}
 
 abbrev pub AllProper : List Piece → Type 0
@@ -26,32 +28,32 @@ proper_word : (text : List ℕ) → Proper (word_mark text)
 unfolding word_mark
 proper_word text = proper_row rows text (tt, (tt, (tt, (tt, (tt, (tt, (tt, (tt, (tt, (tt, (tt, (tt, (tt, (tt, (tt, (tt, (tt, (tt, (tt, (tt, (tt, (tt, (tt, (tt, (tt, (tt, (tt, (tt, tt))))))))))))))))))))))))))))
 
-proper_sign : (table : List (ℕ × Mark)) (c : ℕ) → AllByRecursion (λ (r : ℕ × Mark). Proper r.1) table → Proper (sign_in table c)
+proper_sign : (table : List (ℕ × Mark)) (c : ℕ) → AllByRecursion (λ (r : ℕ × Mark). Proper r.1) table → Proper (mark_at table c)
 proper_sign [] c h = tt
-proper_sign (r ∷ table) c h = proper_if (c == r.0) r.1 (sign_in table c) h.0 (proper_sign table c h.1)
+proper_sign (r ∷ table) c h = proper_if (c == r.0) r.1 (mark_at table c) h.0 (proper_sign table c h.1)
 
 proper_char : (c : ℕ) → Proper (char_mark c)
 unfolding char_mark
 proper_char c = by (is_ascii_digit c) refl
   where
-    by : (b : Bool) → is_ascii_digit c ≡ b → Proper (cond b (Digit (c - 48)) (sign_in signs c))
-    by true e = let d = digit_bounds c e in lt-ltb (c - 48) 10 (omega (arith, d))
+    by : (b : Bool) → is_ascii_digit c ≡ b → Proper (cond b (Digit (c - digit_zero)) (mark_at signs c))
+    by true e = let d = digit_bounds c e in lt-ltb (c - digit_zero) 10 (omega (arith, d))
     by false e = proper_sign signs c (tt, (tt, (tt, (tt, (tt, (tt, (tt, (tt, (tt, (tt, (tt, (tt, (tt, (tt, (tt, (tt, (tt, tt)))))))))))))))))
 
-proper_mark : (sign : Sign) → Proper (mark_of sign)
-proper_mark (A_char c) = proper_char c
-proper_mark Opens = tt
-proper_mark Closes = tt
-proper_mark A_space = tt
+proper_mark : (kind : Kind) → Proper (mark_of kind)
+proper_mark (Char c) = proper_char c
+proper_mark Open = tt
+proper_mark Close = tt
+proper_mark Space = tt
 proper_mark _ = tt
 
 proper_lump : (lump : Lump) → Proper (piece_of lump).mark
-proper_lump (Run text at) = proper_word text
-proper_lump (Alone sign at) = proper_mark sign
+proper_lump (Letters text at) = proper_word text
+proper_lump (Alone kind at) = proper_mark kind
 
 proper_lumps : (lumps : List Lump) → AllProper (map piece_of lumps)
 proper_lumps [] = tt
 proper_lumps (lump ∷ lumps) = (proper_lump lump, proper_lumps lumps)
 
-pub proper : (tokens : List Token) → AllProper (pieces_of tokens)
-proper tokens = proper_lumps (lumps_of tokens)
+pub proper : (toks : List Tok) → AllProper (pieces_of toks)
+proper toks = proper_lumps (lumps_of toks)

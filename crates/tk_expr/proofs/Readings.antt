@@ -14,7 +14,7 @@ use Rattle.tk_expr.specs.declared.pieces.Mark.TheVariants.{Digit, Point, Measure
 use Rattle.tk_expr.specs.declared.pieces.Piece.{Piece}
 use Rattle.tk_expr.specs.Number.{Decimal, no_digits, with_digit, with_point, total}
 use Rattle.tk_expr.specs.Values.{placed, prefixed, decimal_in, in_unit, in_degrees, pi_value}
-use Rattle.tk_expr.specs.Grammar.{piece, skip, after_decimal, next_unit, after_unit, prefix_of, exponent_sign, Level, Postfixes, Powers, Products, Sums, Comparisons, Conjunctions, Disjunctions, level_of, is_chain, Begins, Stands}
+use Rattle.tk_expr.specs.Grammar.{piece, skip, after_decimal, next_unit, after_unit, prefix_of, exponent_sign, Precedence, Postfixes, Powers, Products, Sums, Comparisons, Conjunctions, Disjunctions, precedence_of, is_chain, Begins, Stands}
 use Rattle.tk_expr.specs.Machine.{Found, applied, waiting, choice_found, one_found, two_found, most_found}
 
 -- ---- values
@@ -59,11 +59,11 @@ mutual
     asked : {ps qs rs ss us : List Piece} {c x y : Found} {m n : ℕ} → Begins Question m ps qs → Whole font qs x rs → Begins Colon n rs ss → Whole font ss y us → Asks font c ps (choice_found c x y) us
 
   -- an operand of a level, and then operators of the level
-  pub data Group (font : FontUnits) : Level → List Piece → Found → List Piece → Type 0 where
-    group : {l : Level} {ps qs rs : List Piece} {x y : Found} → Part font l ps x qs → Goes font l x qs y rs → Group font l ps y rs
+  pub data Group (font : FontUnits) : Precedence → List Piece → Found → List Piece → Type 0 where
+    group : {l : Precedence} {ps qs rs : List Piece} {x y : Found} → Part font l ps x qs → Goes font l x qs y rs → Group font l ps y rs
 
   -- an operand of a level
-  pub data Part (font : FontUnits) : Level → List Piece → Found → List Piece → Type 0 where
+  pub data Part (font : FontUnits) : Precedence → List Piece → Found → List Piece → Type 0 where
     primary_part : {ps qs : List Piece} {x : Found} → Primary font ps x qs → Part font Postfixes ps x qs
     postfix_part : {ps qs : List Piece} {x : Found} → Group font Postfixes ps x qs → Part font Powers ps x qs
     prefixed_part : {ps qs : List Piece} {x : Found} → Prefixed font ps x qs → Part font Products ps x qs
@@ -73,13 +73,13 @@ mutual
     conjunction_part : {ps qs : List Piece} {x : Found} → Group font Conjunctions ps x qs → Part font Disjunctions ps x qs
 
   -- operators of a level behind an operand
-  pub data Goes (font : FontUnits) : Level → Found → List Piece → Found → List Piece → Type 0 where
-    stays : {l : Level} {ps : List Piece} {x : Found} → Goes font l x ps x ps
+  pub data Goes (font : FontUnits) : Precedence → Found → List Piece → Found → List Piece → Type 0 where
+    stays : {l : Precedence} {ps : List Piece} {x : Found} → Goes font l x ps x ps
     on_unit : {ps qs rs : List Piece} {x y : Found} {u : AUnit} {at : ℕ} → Begins (Measure u) at ps qs → Goes font Postfixes (unit_found font u at x) qs y rs → Goes font Postfixes x ps y rs
     on_radians : {ps qs rs : List Piece} {x y : Found} {at : ℕ} → Begins Radian at ps qs → Goes font Postfixes (radians_found at x) qs y rs → Goes font Postfixes x ps y rs
     on_power : {ps qs rs ss : List Piece} {x y w : Found} {at : ℕ} → Stands Raise at ps qs → Exponential font qs w rs → Goes font Powers (applied (waiting Raise at x) w) rs y ss → Goes font Powers x ps y ss
-    on_operator : {l : Level} {ps qs rs ss : List Piece} {x y w : Found} (o : Operator) (at : ℕ) → level_of o ≡ l → is_chain l ≡ true → Stands o at ps qs → Part font l qs w rs → Goes font l (applied (waiting o at x) w) rs y ss → Goes font l x ps y ss
-    on_comparison : {ps qs rs : List Piece} {x w : Found} (o : Operator) (at : ℕ) → level_of o ≡ Comparisons → Stands o at ps qs → Part font Comparisons qs w rs → Goes font Comparisons x ps (applied (waiting o at x) w) rs
+    on_operator : {l : Precedence} {ps qs rs ss : List Piece} {x y w : Found} (o : Operator) (at : ℕ) → precedence_of o ≡ l → is_chain l ≡ true → Stands o at ps qs → Part font l qs w rs → Goes font l (applied (waiting o at x) w) rs y ss → Goes font l x ps y ss
+    on_comparison : {ps qs rs : List Piece} {x w : Found} (o : Operator) (at : ℕ) → precedence_of o ≡ Comparisons → Stands o at ps qs → Part font Comparisons qs w rs → Goes font Comparisons x ps (applied (waiting o at x) w) rs
 
   -- a power with any number of signs before it
   pub data Prefixed (font : FontUnits) : List Piece → Found → List Piece → Type 0 where

@@ -1,7 +1,24 @@
 -- What the machine comes to is the answer.
+--
+-- A guide to the proofs of this crate. The relation that carries them is `Completes font s ps v`: behind what the state s
+-- has read, the pieces ps are the rest of some text, whose value is v. Behind `1+2`, for instance, `*3` completes to 7,
+-- and `)` to nothing, since nothing is open.
+--
+-- 1. Readings gives the grammar over values in place of trees, and Trees says that it is the same grammar. Gaps and Fronts
+--    say what stands in front of a text, Decimals how digits make a number, and SignRuns that a run of signs is one sign.
+-- 2. Continuations defines `Completes`: how a text goes on behind an operand, level by level, with what waits for it and
+--    what is open. Levels says that at the start this is the grammar itself (`fresh_whole`).
+-- 3. Behind, Ends and Stepping take one piece: the machine goes to a state that the same texts complete, or refuses a
+--    piece with which no text goes on. Outcomes has the words for that, and Stepping joins the modes (`step_is`).
+-- 4. Closing completes each state by some text, so that what was read is always the beginning of one. Finishing says what
+--    the machine makes of the end of the pieces.
+-- 5. This file goes through all pieces (`Reached`), and so shows that the machine's answer is one by the grammar.
+--    OneAnswer shows that there is no other, and Evaluations that therefore all evaluations are the machine's.
+-- 6. Apart from that: Places follows the places of faults, ShortWay shows that a decimal read without the machine has the
+--    machine's value, and Letters and ProperPieces tie tokens to pieces.
 use Rattle.std.proofs.Common.{◌≡◌, ◌⊎◌, ◌↔◌, inl, inr, ℕ, suc, ◌≤◌, Bool, true, false, ◌||◌, List, [], ◌∷◌, ◌++◌, length, drop, Option, None, refl, sym, ap, ap₂, subst, ◌∙◌, arith, append_assoc, append-nil, zero-le}
 use Rattle.tk_token.specs.Answers.{Answer, ◌>>=◌}
-use Rattle.tk_token.specs.Token.{Token}
+use Rattle.tk_token.specs.declared.Tok.{Tok}
 use Rattle.tk_expr.specs.declared.FontUnits.{FontUnits}
 use Rattle.tk_expr.specs.declared.Value.{Value}
 use Rattle.tk_expr.specs.declared.pieces.Mark.{Mark}
@@ -14,8 +31,8 @@ use Rattle.tk_expr.specs.declared.machine.Frame.TheVariants.{Inside, Then, Else}
 use Rattle.tk_expr.specs.Tree.{Tree, value}
 use Rattle.tk_expr.specs.Grammar.{piece, IsText}
 use Rattle.tk_expr.specs.Faults.{IsBeginning, Opener, Parenthesis, Call, Asked, Answered, unanswered, name_behind, open_behind, open_from, open_in, IsShallow, IsMiscount, too_many, too_few}
-use Rattle.tk_expr.specs.Evaluates.{is_unit, has_unit, valued, IsMisfit, IsTooDeep, Answers, evaluates, misfit, miscount, too_deep, ends, Evaluates}
-use Rattle.tk_expr.specs.Evaluated.{end_of, evaluated}
+use Rattle.tk_expr.specs.Evaluates.{is_unit, has_unit, valued, IsMisfit, IsTooDeep, IsAnswer, evaluates, misfit, miscount, too_deep, ends, end_of, Evaluates}
+use Rattle.tk_expr.specs.Evaluated.{evaluated}
 use Rattle.tk_expr.specs.Pieces.{pieces_of}
 use Rattle.tk_expr.specs.Machine.{Found, State, start, step, run, finish}
 use Rattle.tk_expr.proofs.Closing.{completes}
@@ -263,12 +280,12 @@ module _ (font : FontUnits) where
       let long : length (open_in (before ++ p ∷ [])) ≡ length t.frames = length_next r p t k in
       record { rest = ps; split = refl; beginning = beginning_next r p e.0 e.1 ((h e.0 e.1).1 e.2); shallow = r.shallow; deep = omega (arith, few, many, more, long) }
 
-  from_sure : (end : ℕ) {before : List Piece} {s : State} (r : Reached before s) (p : Piece) (ps : List Piece) (m : Answer State) → SureIs font (In s p.mark p.at) (In s Right) (In s Comma) (NamedAt s.mode) s.frames s.unit p.mark p.at m → ((t : State) → Reached (before ++ p ∷ []) t → Answers font end ((before ++ p ∷ []) ++ ps) (run font t ps >>= finish font end)) → Answers font end (before ++ p ∷ ps) ((m >>= λ t. run font t ps) >>= finish font end)
-  from_sure end {before = before} r p ps m (steps t h k le) on = subst (λ (l : List Piece). Answers font end l (run font t ps >>= finish font end)) (one_more before p ps) (on t (reached_next r p t h k (le r.few)))
+  from_sure : (end : ℕ) {before : List Piece} {s : State} (r : Reached before s) (p : Piece) (ps : List Piece) (m : Answer State) → SureIs font (In s p.mark p.at) (In s Right) (In s Comma) (NamedAt s.mode) s.frames s.unit p.mark p.at m → ((t : State) → Reached (before ++ p ∷ []) t → IsAnswer font end ((before ++ p ∷ []) ++ ps) (run font t ps >>= finish font end)) → IsAnswer font end (before ++ p ∷ ps) ((m >>= λ t. run font t ps) >>= finish font end)
+  from_sure end {before = before} r p ps m (steps t h k le) on = subst (λ (l : List Piece). IsAnswer font end l (run font t ps >>= finish font end)) (one_more before p ps) (on t (reached_next r p t h k (le r.few)))
   from_sure end {before = before} r p ps m (refuses h k) on = misfit (misfit_at r p ps h) (λ name i. not_miscount r i k)
   from_sure end {before = before} r p ps m (miscounts name h k) on = miscount (misfit_at r p ps h) (is_miscount r p.mark name k)
 
-  from_step : (end : ℕ) {before : List Piece} {s : State} (r : Reached before s) (p : Piece) (ps : List Piece) (m : Answer State) → StepIs font (In s p.mark p.at) (In s Right) (In s Comma) (NamedAt s.mode) s.frames s.unit p.mark p.at m → ((t : State) → Reached (before ++ p ∷ []) t → Answers font end ((before ++ p ∷ []) ++ ps) (run font t ps >>= finish font end)) → Answers font end (before ++ p ∷ ps) ((m >>= λ t. run font t ps) >>= finish font end)
+  from_step : (end : ℕ) {before : List Piece} {s : State} (r : Reached before s) (p : Piece) (ps : List Piece) (m : Answer State) → StepIs font (In s p.mark p.at) (In s Right) (In s Comma) (NamedAt s.mode) s.frames s.unit p.mark p.at m → ((t : State) → Reached (before ++ p ∷ []) t → IsAnswer font end ((before ++ p ∷ []) ++ ps) (run font t ps >>= finish font end)) → IsAnswer font end (before ++ p ∷ ps) ((m >>= λ t. run font t ps) >>= finish font end)
   from_step end r p ps m (sure h) on = from_sure end r p ps m h on
   from_step end r p ps m (deep t h k many more) on = too_deep (too_deep_at r p ps t h k many more)
 
@@ -276,15 +293,15 @@ module _ (font : FontUnits) where
   or_false true = refl
   or_false false = refl
 
-  from_finish : (end : ℕ) {before : List Piece} {s : State} (r : Reached before s) (m : Answer Value) → FinishIs font (λ v. Completes font s [] v) s.unit end m → Answers font end before m
+  from_finish : (end : ℕ) {before : List Piece} {s : State} (r : Reached before s) (m : Answer Value) → FinishIs font (λ v. Completes font s [] v) s.unit end m → IsAnswer font end before m
   from_finish end {before = before} {s = s} r m (finds v h) =
       let t = text_out before v (subst (λ (l : List Piece). Completes font start l v) (append-nil before) ((r.same [] v).1 h)) in
       let u : has_unit before ≡ s.unit = ap has_unit (sym (append-nil before)) ∙ r.unit [] ∙ or_false s.unit in
-      subst (λ (m : Answer Value). Answers font end before m) (ap₂ valued u t.is) (evaluates t.text r.shallow)
+      subst (λ (m : Answer Value). IsAnswer font end before m) (ap₂ valued u t.is) (evaluates t.text r.shallow)
   from_finish end {before = before} r m (lacks h) = ends (beginning_now r) r.shallow (λ t i. h (value font t) ((r.same [] (value font t)).0 (subst (λ (l : List Piece). Completes font start l (value font t)) (sym (append-nil before)) (text_in before t i))))
 
-  answered : (end : ℕ) (before ps : List Piece) (s : State) → Reached before s → AllProper ps → Answers font end (before ++ ps) (run font s ps >>= finish font end)
-  answered end before [] s r h = subst (λ (l : List Piece). Answers font end l (finish font end s)) (sym (append-nil before)) (from_finish end r (finish font end s) (finish_is font s end))
+  answered : (end : ℕ) (before ps : List Piece) (s : State) → Reached before s → AllProper ps → IsAnswer font end (before ++ ps) (run font s ps >>= finish font end)
+  answered end before [] s r h = subst (λ (l : List Piece). IsAnswer font end l (finish font end s)) (sym (append-nil before)) (from_finish end r (finish font end s) (finish_is font s end))
   answered end before (p ∷ ps) s r h = from_step end r p ps (step font s p) (step_is font s p h.0 r.valid) (λ t next. answered end (before ++ p ∷ []) ps t next h.1)
 
   -- ---- one value
@@ -304,10 +321,10 @@ module _ (font : FontUnits) where
   one_text ps t u h a b = one_completion start ps (value font t) (value font u) h reached_start.valid (text_in ps t a) (text_in ps u b)
 
 -- the machine's answer is one
-pub evaluated_is_the_answer : (font : FontUnits) (at : ℕ) (tokens : List Token) → Evaluates font at tokens (evaluated font at tokens)
+pub evaluated_is_the_answer : (font : FontUnits) (at : ℕ) (toks : List Tok) → Evaluates font at toks (evaluated font at toks)
 unfolding evaluated
-evaluated_is_the_answer font at tokens = answered font (end_of at tokens) [] (pieces_of tokens) start (reached_start font) (proper tokens)
+evaluated_is_the_answer font at toks = answered font (end_of at toks) [] (pieces_of toks) start (reached_start font) (proper toks)
 
 -- the same for an answer that is known to be the machine's
-pub answer_means : (font : FontUnits) (at : ℕ) (tokens : List Token) (r : Answer Value) → r ≡ evaluated font at tokens → Evaluates font at tokens r
-answer_means font at tokens r is = subst (λ (r : Answer Value). Evaluates font at tokens r) (sym is) (evaluated_is_the_answer font at tokens)
+pub answer_means : (font : FontUnits) (at : ℕ) (toks : List Tok) (r : Answer Value) → r ≡ evaluated font at toks → Evaluates font at toks r
+answer_means font at toks r is = subst (λ (r : Answer Value). Evaluates font at toks r) (sym is) (evaluated_is_the_answer font at toks)

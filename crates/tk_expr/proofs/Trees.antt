@@ -7,7 +7,7 @@ use Rattle.tk_expr.specs.declared.operators.Operator.TheVariants.{Raise}
 use Rattle.tk_expr.specs.declared.pieces.Piece.{Piece}
 use Rattle.tk_expr.specs.Tree.{Tree, A_number, A_pi, In_unit, In_degrees, Signed, Binary, Choice, Call_one, Call_two, Call_most, value}
 use Rattle.tk_expr.specs.Number.{Decimal}
-use Rattle.tk_expr.specs.Grammar.{piece, skip, decimal_text, after_decimal, next_unit, after_unit, Level, Disjunctions, Expression, plain, choice, Grouped, grouped, Operand, of_atom, of_postfix, of_unary, of_product, of_sum, of_comparison, of_conjunction, Rest, stop, with_unit, with_radians, with_power, with_operator, with_comparison, Unary, signed, unsigned, Exponent, signed_exponent, unsigned_exponent, Atom, decimal, parenthesis, pi, call_one, call_two, call_most, Arguments, last, next}
+use Rattle.tk_expr.specs.Grammar.{piece, skip, decimal_text, after_decimal, next_unit, after_unit, Precedence, Disjunctions, Expression, plain, choice, Grouped, grouped, Operand, of_atom, of_postfix, of_unary, of_product, of_sum, of_comparison, of_conjunction, Rest, stop, with_unit, with_radians, with_power, with_operator, with_comparison, Unary, signed, unsigned, Exponent, signed_exponent, unsigned_exponent, Atom, decimal, parenthesis, pi, call_one, call_two, call_most, MoreArguments, last, next}
 use Rattle.tk_expr.specs.Machine.{Found, applied, waiting, choice_found, one_found, two_found, most_found}
 use Rattle.tk_expr.proofs.Decimals.{decimal_reads, IsNumber, digits_read, point_read}
 use Rattle.tk_expr.proofs.Readings.{decimal_found, prefixed_found, unit_found, radians_found, Whole, whole, Asks, unasked, asked, Group, group, Part, primary_part, postfix_part, prefixed_part, product_part, sum_part, comparison_part, conjunction_part, Goes, stays, on_unit, on_radians, on_power, on_operator, on_comparison, Prefixed, sign_before, no_sign_before, Exponential, exponent_sign_before, bare_exponent, Primary, of_digits, of_point, of_parenthesis, of_pi, of_one, of_two, of_most, Further, no_further, one_further}
@@ -20,10 +20,10 @@ module _ (font : FontUnits) where
     read_expression (plain g) = whole (read_grouped g) unasked
     read_expression (choice g q t c u) = whole (read_grouped g) (asked q (read_expression t) c (read_expression u))
 
-    read_grouped : {l : Level} {ps qs : List Piece} {t : Tree} → Grouped l ps t qs → Group font l ps (value font t) qs
+    read_grouped : {l : Precedence} {ps qs : List Piece} {t : Tree} → Grouped l ps t qs → Group font l ps (value font t) qs
     read_grouped (grouped o r) = group (read_operand o) (read_rest r)
 
-    read_operand : {l : Level} {ps qs : List Piece} {t : Tree} → Operand l ps t qs → Part font l ps (value font t) qs
+    read_operand : {l : Precedence} {ps qs : List Piece} {t : Tree} → Operand l ps t qs → Part font l ps (value font t) qs
     read_operand (of_atom a) = primary_part (read_atom a)
     read_operand (of_postfix g) = postfix_part (read_grouped g)
     read_operand (of_unary u) = prefixed_part (read_unary u)
@@ -32,7 +32,7 @@ module _ (font : FontUnits) where
     read_operand (of_comparison g) = comparison_part (read_grouped g)
     read_operand (of_conjunction g) = conjunction_part (read_grouped g)
 
-    read_rest : {l : Level} {ps qs : List Piece} {t u : Tree} → Rest l t ps u qs → Goes font l (value font t) ps (value font u) qs
+    read_rest : {l : Precedence} {ps qs : List Piece} {t u : Tree} → Rest l t ps u qs → Goes font l (value font t) ps (value font u) qs
     read_rest stop = stays
     read_rest (with_unit e r) = on_unit e (read_rest r)
     read_rest (with_radians e r) = on_radians e (read_rest r)
@@ -56,7 +56,7 @@ module _ (font : FontUnits) where
     read_atom (call_two e l t c u r) = of_two e l (read_expression t) c (read_expression u) r
     read_atom (call_most e l t a) = of_most e l (read_expression t) (read_arguments a)
 
-    read_arguments : {f : Most} {ps qs : List Piece} {t u : Tree} → Arguments f t ps u qs → Further font f (value font t) ps (value font u) qs
+    read_arguments : {f : Most} {ps qs : List Piece} {t u : Tree} → MoreArguments f t ps u qs → Further font f (value font t) ps (value font u) qs
     read_arguments (last e) = no_further e
     read_arguments (next e t a) = one_further e (read_expression t) (read_arguments a)
 
@@ -83,10 +83,10 @@ module _ (font : FontUnits) where
     tell_asks unasked c is = record { tree = c; is = is; read = λ qs g. plain g }
     tell_asks (asked q t n u) c is = let v = tell_whole t in let w = tell_whole u in record { tree = Choice c v.tree w.tree; is = choice_is c v.tree w.tree is v.is w.is; read = λ qs g. choice g q v.read n w.read }
 
-    tell_group : {l : Level} {ps qs : List Piece} {x : Found} → Group font l ps x qs → Told font (λ t. Grouped l ps t qs) x
+    tell_group : {l : Precedence} {ps qs : List Piece} {x : Found} → Group font l ps x qs → Told font (λ t. Grouped l ps t qs) x
     tell_group (group p g) = let t = tell_part p in let r = tell_goes g t.tree t.is in record { tree = r.tree; is = r.is; read = grouped t.read r.read }
 
-    tell_part : {l : Level} {ps qs : List Piece} {x : Found} → Part font l ps x qs → Told font (λ t. Operand l ps t qs) x
+    tell_part : {l : Precedence} {ps qs : List Piece} {x : Found} → Part font l ps x qs → Told font (λ t. Operand l ps t qs) x
     tell_part (primary_part a) = let t = tell_primary a in record { tree = t.tree; is = t.is; read = of_atom t.read }
     tell_part (postfix_part g) = let t = tell_group g in record { tree = t.tree; is = t.is; read = of_postfix t.read }
     tell_part (prefixed_part u) = let t = tell_prefixed u in record { tree = t.tree; is = t.is; read = of_unary t.read }
@@ -95,7 +95,7 @@ module _ (font : FontUnits) where
     tell_part (comparison_part g) = let t = tell_group g in record { tree = t.tree; is = t.is; read = of_comparison t.read }
     tell_part (conjunction_part g) = let t = tell_group g in record { tree = t.tree; is = t.is; read = of_conjunction t.read }
 
-    tell_goes : {l : Level} {ps qs : List Piece} {x y : Found} → Goes font l x ps y qs → (t : Tree) → value font t ≡ x → Told font (λ u. Rest l t ps u qs) y
+    tell_goes : {l : Precedence} {ps qs : List Piece} {x y : Found} → Goes font l x ps y qs → (t : Tree) → value font t ≡ x → Told font (λ u. Rest l t ps u qs) y
     tell_goes stays t is = record { tree = t; is = is; read = stop }
     tell_goes (on_unit {u = u} {at = at} e g) t is = let r = tell_goes g (In_unit u at t) (ap (unit_found font u at) is) in record { tree = r.tree; is = r.is; read = with_unit e r.read }
     tell_goes (on_radians {at = at} e g) t is = let r = tell_goes g (In_degrees at t) (ap (radians_found at) is) in record { tree = r.tree; is = r.is; read = with_radians e r.read }
@@ -120,6 +120,6 @@ module _ (font : FontUnits) where
     tell_primary (of_two {f = f} {at = at} e l t c u r) = let x = tell_whole t in let y = tell_whole u in record { tree = Call_two f at x.tree y.tree; is = ap₂ (two_found f at) x.is y.is; read = call_two e l x.read c y.read r }
     tell_primary (of_most e l t a) = let x = tell_whole t in let r = tell_further a x.tree x.is in record { tree = r.tree; is = r.is; read = call_most e l x.read r.read }
 
-    tell_further : {f : Most} {ps qs : List Piece} {x y : Found} → Further font f x ps y qs → (t : Tree) → value font t ≡ x → Told font (λ u. Arguments f t ps u qs) y
+    tell_further : {f : Most} {ps qs : List Piece} {x y : Found} → Further font f x ps y qs → (t : Tree) → value font t ≡ x → Told font (λ u. MoreArguments f t ps u qs) y
     tell_further (no_further e) t is = record { tree = t; is = is; read = last e }
     tell_further (one_further {f = f} e w a) t is = let u = tell_whole w in let r = tell_further a (Call_most f t u.tree) (ap₂ (λ a b. most_found f (Some a) b) is u.is) in record { tree = r.tree; is = r.is; read = next e u.read r.read }

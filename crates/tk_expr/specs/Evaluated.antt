@@ -1,17 +1,13 @@
--- What an expression comes to.
-use Rattle.std.specs.Prelude.{ℕ, List, [], ◌∷◌}
+-- Private: only the code's own contracts use this; the law `evaluated_is_the_answer` says that it meets Evaluates, and `a_text_has_one_answer` that nothing else does.
+use Rattle.std.specs.Prelude.{ℕ, List}
+use Rattle.tk_token.specs.declared.Tok.{Tok}
 use Rattle.tk_token.specs.Answers.{Answer, ◌>>=◌}
-use Rattle.tk_token.specs.Token.{Token}
 use Rattle.tk_expr.specs.declared.FontUnits.{FontUnits}
 use Rattle.tk_expr.specs.declared.Value.{Value}
+use Rattle.tk_expr.specs.Evaluates.{end_of}
 use Rattle.tk_expr.specs.Machine.{start, run, finish}
 use Rattle.tk_expr.specs.Pieces.{pieces_of}
 
--- where tokens run out: at the last of them, or at that place where there is none
-abbrev pub end_of : ℕ → List Token → ℕ
-end_of at [] = at
-end_of at (t ∷ ts) = end_of t.at ts
-
--- the value of an expression, or its fault
-unfoldable pub evaluated : FontUnits → ℕ → List Token → Answer Value
-evaluated font at tokens = run font start (pieces_of tokens) >>= λ s. finish font (end_of at tokens) s
+-- what the machine makes of tokens
+unfoldable pub evaluated : FontUnits → ℕ → List Tok → Answer Value
+evaluated font at toks = run font start (pieces_of toks) >>= λ s. finish font (end_of at toks) s

@@ -1,9 +1,9 @@
 -- What an expression comes to: the relation between its tokens and the answer.
 use Rattle.std.specs.Prelude.{◌≡◌, ℕ, Bool, true, false, List, [], ◌∷◌, ◌++◌, length, Ok, ℤ}
 use Rattle.std.specs.List.{list_any}
+use Rattle.tk_token.specs.declared.Tok.{Tok}
 use Rattle.tk_token.specs.declared.Code.TheVariants.{TooDeep, Expression}
 use Rattle.tk_token.specs.Answers.{Answer, ◌>>=◌, fault}
-use Rattle.tk_token.specs.Token.{Token}
 use Rattle.tk_expr.specs.declared.FontUnits.{FontUnits}
 use Rattle.tk_expr.specs.declared.Value.{Value}
 use Rattle.tk_expr.specs.declared.pieces.Mark.{Mark}
@@ -13,7 +13,6 @@ use Rattle.tk_expr.specs.Tree.{Tree, value}
 use Rattle.tk_expr.specs.Grammar.{IsText}
 use Rattle.tk_expr.specs.Faults.{IsBeginning, IsShallow, IsMiscount, open_in}
 use Rattle.tk_expr.specs.Pieces.{pieces_of}
-use Rattle.tk_expr.specs.Evaluated.{end_of}
 
 -- a unit
 abbrev pub is_unit : Mark → Bool
@@ -45,18 +44,47 @@ pub record IsTooDeep (ps before : List Piece) (x : Piece) : Type 0 where
   pub deep : length (open_in (before ++ x ∷ [])) ≡ 65
 
 -- Pieces that run out at a place, and their answer.
-pub data Answers (font : FontUnits) (end : ℕ) (ps : List Piece) : Answer Value → Type 0 where
+pub data IsAnswer (font : FontUnits) (end : ℕ) (ps : List Piece) : Answer Value → Type 0 where
   -- an expression has the value of its tree, or the first fault on the way to it
-  evaluates : {t : Tree} → IsText ps t → IsShallow ps → Answers font end ps (valued (has_unit ps) (value font t))
-  -- the first piece that doesn't fit is refused
-  misfit : {before : List Piece} {x : Piece} → IsMisfit ps before x → ((name : ℕ) → IsMiscount before name x.mark → ⊥) → Answers font end ps (fault Expression x.at)
-  -- where it shows a wrong count of arguments, the name of the function is
-  miscount : {before : List Piece} {x : Piece} {name : ℕ} → IsMisfit ps before x → IsMiscount before name x.mark → Answers font end ps (fault Expression name)
+  evaluates : {t : Tree}
+      → IsText ps t
+      → IsShallow ps
+      → IsAnswer font end ps (valued (has_unit ps) (value font t))
+  -- the first piece that doesn't fit is refused: `1+*2` at the `*`
+  misfit : {before : List Piece} {x : Piece}
+      → IsMisfit ps before x
+      → ((name : ℕ) → IsMiscount before name x.mark → ⊥)
+      → IsAnswer font end ps (fault Expression x.at)
+  -- where it shows a wrong count of arguments, the name of the function is: `1+mod(7)` at the `mod`
+  miscount : {before : List Piece} {x : Piece} {name : ℕ}
+      → IsMisfit ps before x
+      → IsMiscount before name x.mark
+      → IsAnswer font end ps (fault Expression name)
   -- a 65th opener is refused
-  too_deep : {before : List Piece} {x : Piece} → IsTooDeep ps before x → Answers font end ps (fault TooDeep x.at)
-  -- pieces run out that some text goes on from, and that are none
-  ends : IsBeginning ps → IsShallow ps → ((t : Tree) → IsText ps t → ⊥) → Answers font end ps (fault Expression end)
+  too_deep : {before : List Piece} {x : Piece}
+      → IsTooDeep ps before x
+      → IsAnswer font end ps (fault TooDeep x.at)
+  -- pieces run out that some text goes on from, and that are none: `(1+2` at the `2`
+  ends : IsBeginning ps
+      → IsShallow ps
+      → ((t : Tree) → IsText ps t → ⊥)
+      → IsAnswer font end ps (fault Expression end)
+
+-- where tokens run out: at the last of them, or at that place where there is none
+abbrev pub end_of : ℕ → List Tok → ℕ
+end_of at [] = at
+end_of at (t ∷ ts) = end_of t.at ts
 
 -- tokens and their answer; `at` is the place of no tokens
-abbrev pub Evaluates : FontUnits → ℕ → List Token → Answer Value → Type 0
-Evaluates font at tokens answer = Answers font (end_of at tokens) (pieces_of tokens) answer
+abbrev pub Evaluates : FontUnits → ℕ → List Tok → Answer Value → Type 0
+Evaluates font at toks answer = IsAnswer font (end_of at toks) (pieces_of toks) answer
+
+-- ---- evaluations
+
+-- an answer for each font, place and text
+abbrev pub Evaluation : Type 0
+Evaluation = FontUnits → ℕ → List Tok → Answer Value
+
+-- each answer is the one by the grammar
+abbrev pub IsEvaluation : Evaluation → Type 0
+IsEvaluation ev = (font : FontUnits) (at : ℕ) (toks : List Tok) → Evaluates font at toks (ev font at toks)

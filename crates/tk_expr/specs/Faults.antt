@@ -62,5 +62,11 @@ IsShallow ps = (before rest : List Piece) → ps ≡ before ++ rest → length (
 
 -- A wrong count of arguments of the call whose name stands at a place shows at the next piece, a `,` where a `)` fits or a `)` where a `,` fits.
 pub data IsMiscount (before : List Piece) (name : ℕ) : Mark → Type 0 where
-  too_many : (at : ℕ) {openers : List Opener} → unanswered (open_in before) ≡ Call name ∷ openers → IsBeginning (before ++ piece Right at ∷ []) → IsMiscount before name Comma
-  too_few : (at : ℕ) {openers : List Opener} → unanswered (open_in before) ≡ Call name ∷ openers → IsBeginning (before ++ piece Comma at ∷ []) → IsMiscount before name Right
+  too_many : (at : ℕ) {openers : List Opener}
+      → unanswered (open_in before) ≡ Call name ∷ openers
+      → IsBeginning (before ++ piece Right at ∷ [])
+      → IsMiscount before name Comma
+  too_few : (at : ℕ) {openers : List Opener}
+      → unanswered (open_in before) ≡ Call name ∷ openers
+      → IsBeginning (before ++ piece Comma at ∷ [])
+      → IsMiscount before name Right

@@ -12,6 +12,8 @@ use Rattle.tk_expr.specs.declared.pieces.Most.{Most}
 use Rattle.tk_expr.specs.declared.pieces.Mark.{Mark}
 use Rattle.tk_expr.specs.declared.pieces.Mark.TheVariants.{Digit, Point, Measure, Radian, Pi, Single, Double, Several, Plus, Minus, Star, Slash, Caret, Bar, Ampersand, Equals, Bang, Less, Greater, Question, Colon, Comma, Left, Right, Gap}
 use Rattle.tk_expr.specs.declared.pieces.Piece.{Piece}
+use Rattle.tk_token.specs.Characters.{point}
+use Rattle.tk_expr.specs.Pieces.{digit_zero}
 use Rattle.tk_expr.specs.Tree.{Tree, A_number, A_pi, In_unit, In_degrees, Signed, Binary, Choice, Call_one, Call_two, Call_most}
 
 -- ---- pieces in front
@@ -32,8 +34,8 @@ skip (p ∷ ps) = past_gap p.mark (skip ps) (p ∷ ps)
 
 -- the byte of a digit or point; other pieces have none
 abbrev pub byte_of : Mark → Option ℕ
-byte_of (Digit d) = Some (48 + d)
-byte_of Point = Some 46
+byte_of (Digit d) = Some (digit_zero + d)
+byte_of Point = Some point
 byte_of _ = None
 
 -- a byte before a text, where there is one
@@ -95,35 +97,35 @@ exponent_sign Plus = Some Keep
 exponent_sign _ = None
 
 -- the levels of the grammar, from the tightest on
-pub data Level : Type 0 where
+pub data Precedence : Type 0 where
   -- units and `r`, which stand behind an operand
-  Postfixes : Level
+  Postfixes : Precedence
   -- `^`
-  Powers : Level
+  Powers : Precedence
   -- `*` and `/`
-  Products : Level
+  Products : Precedence
   -- `+` and `-`
-  Sums : Level
+  Sums : Precedence
   -- `==`, `!=`, `<=`, `>=`, `<` and `>`
-  Comparisons : Level
+  Comparisons : Precedence
   -- `&&`
-  Conjunctions : Level
+  Conjunctions : Precedence
   -- `||`
-  Disjunctions : Level
+  Disjunctions : Precedence
 
 -- the level of an operator
-abbrev pub level_of : Operator → Level
-level_of Raise = Powers
-level_of Multiply = Products
-level_of Divide = Products
-level_of Add = Sums
-level_of Subtract = Sums
-level_of Both = Conjunctions
-level_of Either = Disjunctions
-level_of _ = Comparisons
+abbrev pub precedence_of : Operator → Precedence
+precedence_of Raise = Powers
+precedence_of Multiply = Products
+precedence_of Divide = Products
+precedence_of Add = Sums
+precedence_of Subtract = Sums
+precedence_of Both = Conjunctions
+precedence_of Either = Disjunctions
+precedence_of _ = Comparisons
 
 -- the levels on which any number of operators stand between operands of one kind
-abbrev pub is_chain : Level → Bool
+abbrev pub is_chain : Precedence → Bool
 is_chain Products = true
 is_chain Sums = true
 is_chain Conjunctions = true
@@ -160,56 +162,131 @@ mutual
   -- a disjunction, or a choice by one between two expressions
   pub data Expression : List Piece → Tree → List Piece → Type 0 where
     plain : {ps qs : List Piece} {t : Tree} → Grouped Disjunctions ps t qs → Expression ps t qs
-    choice : {ps qs rs ss us vs : List Piece} {c t u : Tree} {m n : ℕ} → Grouped Disjunctions ps c qs → Begins Question m qs rs → Expression rs t ss → Begins Colon n ss us → Expression us u vs → Expression ps (Choice c t u) vs
+    choice : {ps qs rs ss us vs : List Piece} {c t u : Tree} {m n : ℕ}
+        → Grouped Disjunctions ps c qs
+        → Begins Question m qs rs
+        → Expression rs t ss
+        → Begins Colon n ss us
+        → Expression us u vs
+        → Expression ps (Choice c t u) vs
 
   -- an operand of a level, and then the rest
-  pub data Grouped : Level → List Piece → Tree → List Piece → Type 0 where
-    grouped : {l : Level} {ps qs rs : List Piece} {x y : Tree} → Operand l ps x qs → Rest l x qs y rs → Grouped l ps y rs
+  pub data Grouped : Precedence → List Piece → Tree → List Piece → Type 0 where
+    grouped : {l : Precedence} {ps qs rs : List Piece} {x y : Tree}
+        → Operand l ps x qs
+        → Rest l x qs y rs
+        → Grouped l ps y rs
 
   -- an operand of a level is a group of the next tighter one; signs stand before powers
-  pub data Operand : Level → List Piece → Tree → List Piece → Type 0 where
+  pub data Operand : Precedence → List Piece → Tree → List Piece → Type 0 where
     of_atom : {ps qs : List Piece} {t : Tree} → Atom ps t qs → Operand Postfixes ps t qs
-    of_postfix : {ps qs : List Piece} {t : Tree} → Grouped Postfixes ps t qs → Operand Powers ps t qs
+    of_postfix : {ps qs : List Piece} {t : Tree}
+        → Grouped Postfixes ps t qs
+        → Operand Powers ps t qs
     of_unary : {ps qs : List Piece} {t : Tree} → Unary ps t qs → Operand Products ps t qs
     of_product : {ps qs : List Piece} {t : Tree} → Grouped Products ps t qs → Operand Sums ps t qs
     of_sum : {ps qs : List Piece} {t : Tree} → Grouped Sums ps t qs → Operand Comparisons ps t qs
-    of_comparison : {ps qs : List Piece} {t : Tree} → Grouped Comparisons ps t qs → Operand Conjunctions ps t qs
-    of_conjunction : {ps qs : List Piece} {t : Tree} → Grouped Conjunctions ps t qs → Operand Disjunctions ps t qs
+    of_comparison : {ps qs : List Piece} {t : Tree}
+        → Grouped Comparisons ps t qs
+        → Operand Conjunctions ps t qs
+    of_conjunction : {ps qs : List Piece} {t : Tree}
+        → Grouped Conjunctions ps t qs
+        → Operand Disjunctions ps t qs
 
   -- `Rest l x ps y qs`: behind x, which was read already, ps goes on with operators of the level and their operands to y, grouped to the left, and qs is left
-  pub data Rest : Level → Tree → List Piece → Tree → List Piece → Type 0 where
-    stop : {l : Level} {ps : List Piece} {x : Tree} → Rest l x ps x ps
-    with_unit : {ps qs rs : List Piece} {x y : Tree} {u : Unit} {at : ℕ} → Begins (Measure u) at ps qs → Rest Postfixes (In_unit u at x) qs y rs → Rest Postfixes x ps y rs
-    with_radians : {ps qs rs : List Piece} {x y : Tree} {at : ℕ} → Begins Radian at ps qs → Rest Postfixes (In_degrees at x) qs y rs → Rest Postfixes x ps y rs
-    with_power : {ps qs rs ss : List Piece} {x y w : Tree} {at : ℕ} → Stands Raise at ps qs → Exponent qs w rs → Rest Powers (Binary Raise at x w) rs y ss → Rest Powers x ps y ss
-    with_operator : {l : Level} {ps qs rs ss : List Piece} {x y w : Tree} {o : Operator} {at : ℕ} → level_of o ≡ l → is_chain l ≡ true → Stands o at ps qs → Operand l qs w rs → Rest l (Binary o at x w) rs y ss → Rest l x ps y ss
+  pub data Rest : Precedence → Tree → List Piece → Tree → List Piece → Type 0 where
+    stop : {l : Precedence} {ps : List Piece} {x : Tree} → Rest l x ps x ps
+    with_unit : {ps qs rs : List Piece} {x y : Tree} {u : Unit} {at : ℕ}
+        → Begins (Measure u) at ps qs
+        → Rest Postfixes (In_unit u at x) qs y rs
+        → Rest Postfixes x ps y rs
+    with_radians : {ps qs rs : List Piece} {x y : Tree} {at : ℕ}
+        → Begins Radian at ps qs
+        → Rest Postfixes (In_degrees at x) qs y rs
+        → Rest Postfixes x ps y rs
+    with_power : {ps qs rs ss : List Piece} {x y w : Tree} {at : ℕ}
+        → Stands Raise at ps qs
+        → Exponent qs w rs
+        → Rest Powers (Binary Raise at x w) rs y ss
+        → Rest Powers x ps y ss
+    with_operator : {l : Precedence} {ps qs rs ss : List Piece} {x y w : Tree} {o : Operator} {at : ℕ}
+        → precedence_of o ≡ l
+        → is_chain l ≡ true
+        → Stands o at ps qs
+        → Operand l qs w rs
+        → Rest l (Binary o at x w) rs y ss
+        → Rest l x ps y ss
     -- at most one
-    with_comparison : {ps qs rs : List Piece} {x w : Tree} {o : Operator} {at : ℕ} → level_of o ≡ Comparisons → Stands o at ps qs → Operand Comparisons qs w rs → Rest Comparisons x ps (Binary o at x w) rs
+    with_comparison : {ps qs rs : List Piece} {x w : Tree} {o : Operator} {at : ℕ}
+        → precedence_of o ≡ Comparisons
+        → Stands o at ps qs
+        → Operand Comparisons qs w rs
+        → Rest Comparisons x ps (Binary o at x w) rs
 
   -- a power with any number of signs before it
   pub data Unary : List Piece → Tree → List Piece → Type 0 where
-    signed : {ps qs rs : List Piece} {p : Piece} {s : Prefix} {t : Tree} → skip ps ≡ p ∷ qs → prefix_of p.mark ≡ Some s → Unary qs t rs → Unary ps (Signed s t) rs
+    signed : {ps qs rs : List Piece} {p : Piece} {s : Prefix} {t : Tree}
+        → skip ps ≡ p ∷ qs
+        → prefix_of p.mark ≡ Some s
+        → Unary qs t rs
+        → Unary ps (Signed s t) rs
     unsigned : {ps qs : List Piece} {t : Tree} → Grouped Powers ps t qs → Unary ps t qs
 
   -- an exponent with any number of `-` and `+` before it
   pub data Exponent : List Piece → Tree → List Piece → Type 0 where
-    signed_exponent : {ps qs rs : List Piece} {p : Piece} {s : Prefix} {t : Tree} → skip ps ≡ p ∷ qs → exponent_sign p.mark ≡ Some s → Exponent qs t rs → Exponent ps (Signed s t) rs
-    unsigned_exponent : {ps qs : List Piece} {t : Tree} → Grouped Postfixes ps t qs → Exponent ps t qs
+    signed_exponent : {ps qs rs : List Piece} {p : Piece} {s : Prefix} {t : Tree}
+        → skip ps ≡ p ∷ qs
+        → exponent_sign p.mark ≡ Some s
+        → Exponent qs t rs
+        → Exponent ps (Signed s t) rs
+    unsigned_exponent : {ps qs : List Piece} {t : Tree}
+        → Grouped Postfixes ps t qs
+        → Exponent ps t qs
 
   -- a decimal, a parenthesis, `pi` or a call
   pub data Atom : List Piece → Tree → List Piece → Type 0 where
     -- digits and points as long as they are, with the unit right behind them
-    decimal : {ps qs : List Piece} {p : Piece} → skip ps ≡ p ∷ qs → is_decimal (decimal_text (p ∷ qs)) ≡ true → Atom ps (A_number (decimal_text (p ∷ qs)) (next_unit (after_decimal (p ∷ qs))) p.at) (after_unit (after_decimal (p ∷ qs)))
-    parenthesis : {ps qs rs ss : List Piece} {t : Tree} {m n : ℕ} → Begins Left m ps qs → Expression qs t rs → Begins Right n rs ss → Atom ps t ss
+    decimal : {ps qs : List Piece} {p : Piece}
+        → skip ps ≡ p ∷ qs
+        → is_decimal (decimal_text (p ∷ qs)) ≡ true
+        → Atom ps (A_number (decimal_text (p ∷ qs)) (next_unit (after_decimal (p ∷ qs))) p.at) (after_unit (after_decimal (p ∷ qs)))
+    parenthesis : {ps qs rs ss : List Piece} {t : Tree} {m n : ℕ}
+        → Begins Left m ps qs
+        → Expression qs t rs
+        → Begins Right n rs ss
+        → Atom ps t ss
     pi : {ps qs : List Piece} {at : ℕ} → Begins Pi at ps qs → Atom ps A_pi qs
-    call_one : {ps qs rs ss us : List Piece} {f : One} {t : Tree} {at m n : ℕ} → Begins (Single f) at ps qs → Begins Left m qs rs → Expression rs t ss → Begins Right n ss us → Atom ps (Call_one f at t) us
-    call_two : {ps qs rs ss us vs ws : List Piece} {f : Two} {t u : Tree} {at k m n : ℕ} → Begins (Double f) at ps qs → Begins Left k qs rs → Expression rs t ss → Begins Comma m ss us → Expression us u vs → Begins Right n vs ws → Atom ps (Call_two f at t u) ws
-    call_most : {ps qs rs ss us : List Piece} {f : Most} {t u : Tree} {at k : ℕ} → Begins (Several f) at ps qs → Begins Left k qs rs → Expression rs t ss → Arguments f t ss u us → Atom ps u us
+    call_one : {ps qs rs ss us : List Piece} {f : One} {t : Tree} {at m n : ℕ}
+        → Begins (Single f) at ps qs
+        → Begins Left m qs rs
+        → Expression rs t ss
+        → Begins Right n ss us
+        → Atom ps (Call_one f at t) us
+    call_two : {ps qs rs ss us vs ws : List Piece} {f : Two} {t u : Tree} {at k m n : ℕ}
+        → Begins (Double f) at ps qs
+        → Begins Left k qs rs
+        → Expression rs t ss
+        → Begins Comma m ss us
+        → Expression us u vs
+        → Begins Right n vs ws
+        → Atom ps (Call_two f at t u) ws
+    call_most : {ps qs rs ss us : List Piece} {f : Most} {t u : Tree} {at k : ℕ}
+        → Begins (Several f) at ps qs
+        → Begins Left k qs rs
+        → Expression rs t ss
+        → MoreArguments f t ss u us
+        → Atom ps u us
 
-  -- `Arguments f t ps u qs`: behind the argument t, ps goes on with `,` and further arguments up to the `)`; the least or greatest of them is u
-  pub data Arguments : Most → Tree → List Piece → Tree → List Piece → Type 0 where
-    last : {f : Most} {ps qs : List Piece} {t : Tree} {at : ℕ} → Begins Right at ps qs → Arguments f t ps t qs
-    next : {f : Most} {ps qs rs ss : List Piece} {t u v : Tree} {at : ℕ} → Begins Comma at ps qs → Expression qs u rs → Arguments f (Call_most f t u) rs v ss → Arguments f t ps v ss
+  -- `MoreArguments f t ps u qs`: behind the argument t, ps goes on with `,` and further arguments up to the `)`; the least or greatest of them is u
+  pub data MoreArguments : Most → Tree → List Piece → Tree → List Piece → Type 0 where
+    last : {f : Most} {ps qs : List Piece} {t : Tree} {at : ℕ}
+        → Begins Right at ps qs
+        → MoreArguments f t ps t qs
+    next : {f : Most} {ps qs rs ss : List Piece} {t u v : Tree} {at : ℕ}
+        → Begins Comma at ps qs
+        → Expression qs u rs
+        → MoreArguments f (Call_most f t u) rs v ss
+        → MoreArguments f t ps v ss
 
 -- all of ps is one expression, gaps apart
 pub record IsText (ps : List Piece) (t : Tree) : Type 0 where

@@ -2,11 +2,13 @@ pub mod Evaluated
 pub mod Evaluates
 pub mod Faults
 pub mod Grammar
+pub mod Letters
 pub mod Machine
 pub mod Number
 pub mod Pairs
 pub mod Pieces
-pub mod Runs
+pub mod Places
+pub mod Plain
 pub mod Steps
 pub mod Tree
 pub mod Values

@@ -1,4 +1,6 @@
--- The machine that reads an expression piece by piece, without a tree. What it comes to for a text is what the relation of Evaluates says of it.
+-- Private: only the code's own contracts use this; the law `evaluated_is_the_answer` says that what the machine makes of a text is its answer by Evaluates.
+-- The machine reads an expression piece by piece, without a tree. In `1+2*3` the sum waits with 1, then the product with 2; where the pieces run out
+-- the product settles first, then the sum. An open parenthesis keeps what waits outside it.
 use Rattle.std.specs.Prelude.{ℕ, Bool, true, false, not, nat_lt, if◌then◌else◌, List, [], ◌∷◌, length, Option, Some, None, is_some, Ok, ℤ}
 use Rattle.tk_num.specs.declared.unit.Unit.{Unit}
 use Rattle.tk_token.specs.declared.Code.TheVariants.{TooDeep, Expression}
@@ -217,9 +219,9 @@ bracket_ends at (Second f name x) v saved frames s = Ok (outside (two_found f na
 bracket_ends at (Each f x) v saved frames s = Ok (outside (most_found f x v) saved frames s)
 
 -- a `)` at that place, behind a value
-abbrev pub right : ℕ → Found → List Frame → State → Answer State
-right at v (Inside bracket saved ∷ frames) s = bracket_ends at bracket v saved frames s
-right at v _ s = fault Expression at
+abbrev pub at_right : ℕ → Found → List Frame → State → Answer State
+at_right at v (Inside bracket saved ∷ frames) s = bracket_ends at bracket v saved frames s
+at_right at v _ s = fault Expression at
 
 -- the next argument in a parenthesis behind a value; a call with too many arguments is refused at its name
 abbrev pub bracket_goes_on : ℕ → Bracket → Found → Pending → List Frame → State → Answer State
@@ -230,14 +232,14 @@ bracket_goes_on at (Second f name x) v saved frames s = fault Expression name
 bracket_goes_on at (Each f x) v saved frames s = Ok (wanted_in (Inside (Each f (Some (most_found f x v))) saved ∷ frames) s)
 
 -- a `,` at that place, behind a value
-abbrev pub comma : ℕ → Found → List Frame → State → Answer State
-comma at v (Inside bracket saved ∷ frames) s = bracket_goes_on at bracket v saved frames s
-comma at v _ s = fault Expression at
+abbrev pub at_comma : ℕ → Found → List Frame → State → Answer State
+at_comma at v (Inside bracket saved ∷ frames) s = bracket_goes_on at bracket v saved frames s
+at_comma at v _ s = fault Expression at
 
 -- a `:` at that place, behind a value
-abbrev pub colon : ℕ → Found → List Frame → State → Answer State
-colon at v (Then c ∷ frames) s = Ok (wanted_in (Else c v ∷ frames) s)
-colon at v _ s = fault Expression at
+abbrev pub at_colon : ℕ → Found → List Frame → State → Answer State
+at_colon at v (Then c ∷ frames) s = Ok (wanted_in (Else c v ∷ frames) s)
+at_colon at v _ s = fault Expression at
 
 -- ---- one piece
 
@@ -324,9 +326,9 @@ after font x Bang at s = comparison Differs (Half Equals) at x s
 after font x Ampersand at s = operator Both (Half Ampersand) at x s
 after font x Bar at s = operator Either (Half Bar) at x s
 after font x Question at s = opened at (Then (disjoined s.pending x)) s
-after font x Colon at s = colon at (closed_behind x s).value (closed_behind x s).frames s
-after font x Comma at s = comma at (closed_behind x s).value (closed_behind x s).frames s
-after font x Right at s = right at (closed_behind x s).value (closed_behind x s).frames s
+after font x Colon at s = at_colon at (closed_behind x s).value (closed_behind x s).frames s
+after font x Comma at s = at_comma at (closed_behind x s).value (closed_behind x s).frames s
+after font x Right at s = at_right at (closed_behind x s).value (closed_behind x s).frames s
 after font x Gap at s = to_mode (After x) s
 after font x _ at s = fault Expression at
 

@@ -4,10 +4,13 @@ use Rattle.std.specs.Char.{is_ascii_digit}
 use Rattle.std.specs.Str.{bytes_eq}
 use Rattle.tk_num.specs.declared.unit.Unit.TheVariants as units
 use Rattle.tk_token.specs.Cutting.{is_letter}
-use Rattle.tk_token.specs.Token.{Sign, A_char, Opens, Closes, A_space, Token}
+use Rattle.tk_token.specs.declared.Kind.{Kind}
+use Rattle.tk_token.specs.declared.Kind.TheVariants.{Char, Open, Close, Space}
+use Rattle.tk_token.specs.declared.Tok.{Tok}
+use Rattle.tk_token.specs.Characters as characters
 use Rattle.tk_expr.specs.declared.pieces.Mark.{Mark}
 use Rattle.tk_expr.specs.declared.pieces.Mark.TheVariants.{Digit, Point, Measure, Radian, Pi, Single, Double, Several, Word, Plus, Minus, Star, Slash, Caret, Bar, Ampersand, Equals, Bang, Less, Greater, Question, Colon, Comma, Left, Right, Gap, Other}
-use Rattle.tk_expr.specs.declared.pieces.One.TheVariants.{Sin, Cos, Tan, Sqrt, Abs, Sign as Sgn, Floor, Ceil, Round, Int}
+use Rattle.tk_expr.specs.declared.pieces.One.TheVariants.{Sin, Cos, Tan, Sqrt, Abs, Sign, Floor, Ceil, Round, Int}
 use Rattle.tk_expr.specs.declared.pieces.Two.TheVariants.{Mod, Pow, Veclen}
 use Rattle.tk_expr.specs.declared.pieces.Most.TheVariants.{Min, Max}
 use Rattle.tk_expr.specs.declared.pieces.Piece.{Piece}
@@ -38,7 +41,7 @@ rows =
     record { text = codes "tan"; mark = Single Tan } ∷
     record { text = codes "sqrt"; mark = Single Sqrt } ∷
     record { text = codes "abs"; mark = Single Abs } ∷
-    record { text = codes "sign"; mark = Single Sgn } ∷
+    record { text = codes "sign"; mark = Single Sign } ∷
     record { text = codes "floor"; mark = Single Floor } ∷
     record { text = codes "ceil"; mark = Single Ceil } ∷
     record { text = codes "round"; mark = Single Round } ∷
@@ -58,57 +61,73 @@ mark_in (row ∷ others) text = if bytes_eq text row.text then row.mark else mar
 unfoldable pub word_mark : List ℕ → Mark
 word_mark text = mark_in rows text
 
--- what a character is by a table of codes, or something that no expression has
-abbrev pub sign_in : List (ℕ × Mark) → ℕ → Mark
-sign_in [] c = Other
-sign_in (row ∷ others) c = if c == row.0 then row.1 else sign_in others c
+-- what a character is by a table, or something that no expression has
+abbrev pub mark_at : List (ℕ × Mark) → ℕ → Mark
+mark_at [] c = Other
+mark_at (row ∷ others) c = if c == row.0 then row.1 else mark_at others c
 
--- the characters `.`, `+` `-` `*` `/` `^`, `|` `&` `=` `!` `<` `>`, `?` `:` `,` and `(` `)`
+-- the characters that an expression has beside digits and letters
 abbrev pub signs : List (ℕ × Mark)
 signs =
-    (46, Point) ∷
-    (43, Plus) ∷ (45, Minus) ∷ (42, Star) ∷ (47, Slash) ∷ (94, Caret) ∷
-    (124, Bar) ∷ (38, Ampersand) ∷ (61, Equals) ∷ (33, Bang) ∷ (60, Less) ∷ (62, Greater) ∷
-    (63, Question) ∷ (58, Colon) ∷ (44, Comma) ∷
-    (40, Left) ∷ (41, Right) ∷ []
+    (characters.point, Point) ∷
+    (characters.plus, Plus) ∷
+    (characters.dash, Minus) ∷
+    (characters.star, Star) ∷
+    (characters.slash, Slash) ∷
+    (characters.caret, Caret) ∷
+    (characters.bar, Bar) ∷
+    (characters.ampersand, Ampersand) ∷
+    (characters.equals, Equals) ∷
+    (characters.exclamation_mark, Bang) ∷
+    (characters.less, Less) ∷
+    (characters.greater, Greater) ∷
+    (characters.question_mark, Question) ∷
+    (characters.colon, Colon) ∷
+    (characters.comma, Comma) ∷
+    (characters.left_parenthesis, Left) ∷
+    (characters.right_parenthesis, Right) ∷ []
+
+-- the character of the digit 0, behind which the others stand in order
+abbrev pub digit_zero : ℕ
+digit_zero = 48
 
 -- what a character that is no letter is
 unfoldable pub char_mark : ℕ → Mark
-char_mark c = if is_ascii_digit c then Digit (c - 48) else sign_in signs c
+char_mark c = if is_ascii_digit c then Digit (c - digit_zero) else mark_at signs c
 
 -- what a single token is: braces count as parentheses
-abbrev pub mark_of : Sign → Mark
-mark_of (A_char c) = char_mark c
-mark_of Opens = Left
-mark_of Closes = Right
-mark_of A_space = Gap
+abbrev pub mark_of : Kind → Mark
+mark_of (Char c) = char_mark c
+mark_of Open = Left
+mark_of Close = Right
+mark_of Space = Gap
 mark_of _ = Other
 
--- a run of letters or another token, with the place of its first token
+-- letters side by side or another token, with the place of the first token
 pub data Lump : Type 0 where
-  Run : List ℕ → ℕ → Lump
-  Alone : Sign → ℕ → Lump
+  Letters : List ℕ → ℕ → Lump
+  Alone : Kind → ℕ → Lump
 
--- a letter before lumps: it joins the run that stands there
+-- a letter before lumps: it joins the letters that stand there
 abbrev pub with_letter : ℕ → ℕ → List Lump → List Lump
-with_letter c at (Run text _ ∷ lumps) = Run (c ∷ text) at ∷ lumps
-with_letter c at lumps = Run (c ∷ []) at ∷ lumps
+with_letter c at (Letters text _ ∷ lumps) = Letters (c ∷ text) at ∷ lumps
+with_letter c at lumps = Letters (c ∷ []) at ∷ lumps
 
 -- a token before lumps
-abbrev pub with_sign : Sign → ℕ → List Lump → List Lump
-with_sign (A_char c) at lumps = if is_letter c then with_letter c at lumps else Alone (A_char c) at ∷ lumps
-with_sign sign at lumps = Alone sign at ∷ lumps
+abbrev pub with_token : Kind → ℕ → List Lump → List Lump
+with_token (Char c) at lumps = if is_letter c then with_letter c at lumps else Alone (Char c) at ∷ lumps
+with_token kind at lumps = Alone kind at ∷ lumps
 
 -- tokens in runs of letters, as long as they can be, and other tokens
-abbrev pub lumps_of : List Token → List Lump
+abbrev pub lumps_of : List Tok → List Lump
 lumps_of [] = []
-lumps_of (t ∷ ts) = with_sign t.sign t.at (lumps_of ts)
+lumps_of (t ∷ ts) = with_token t.kind t.at (lumps_of ts)
 
 -- the piece of a lump
 abbrev pub piece_of : Lump → Piece
-piece_of (Run text at) = record { mark = word_mark text; at = at }
-piece_of (Alone sign at) = record { mark = mark_of sign; at = at }
+piece_of (Letters text at) = record { mark = word_mark text; at = at }
+piece_of (Alone kind at) = record { mark = mark_of kind; at = at }
 
 -- the pieces of tokens
-abbrev pub pieces_of : List Token → List Piece
-pieces_of tokens = map piece_of (lumps_of tokens)
+abbrev pub pieces_of : List Tok → List Piece
+pieces_of toks = map piece_of (lumps_of toks)

@@ -1,10 +1,10 @@
--- What a call that changes a state tells of the state behind it.
+-- Private: only the code's own contracts use this. What a call that changes a state tells of the state that it leaves.
 use Rattle.std.specs.Prelude.{◌≡◌, Result, Ok, Err}
 use Rattle.tk_token.specs.declared.Fault.{Fault}
 use Rattle.tk_token.specs.Answers.{Answer}
 use Rattle.tk_expr.specs.declared.machine.State.{State}
 
--- the answer is the state that is left behind, or the fault
+-- the answer is the state that is left, or the fault
 abbrev pub Leads : {U : Type 0} → Result U Fault → State → Answer State → Type 0
-Leads (Ok u) behind answer = answer ≡ Ok behind
-Leads (Err f) behind answer = answer ≡ Err f
+Leads (Ok u) left answer = answer ≡ Ok left
+Leads (Err f) left answer = answer ≡ Err f

@@ -99,18 +99,18 @@ chosen c x y = if is_true c then x else y
 -- ---- units
 
 -- the length of so many 65536ths of a unit
-abbrev pub length_of : FontUnits → Unit → ℕ → ℤ
-length_of font unit n = length_in unit n font.em font.ex
+abbrev pub unit_length : FontUnits → Unit → ℕ → ℤ
+unit_length font unit n = length_in unit n font.em font.ex
 
 -- a decimal of n 65536ths without a unit, or in one; its whole part is at most 1073741823
 abbrev pub decimal_in : FontUnits → Option Unit → ℕ → Result ℤ NumFault
 decimal_in font None n = scaled (pos n)
-decimal_in font (Some unit) n = if nat_le (n / 65536) 1073741823 then scaled (length_of font unit n) else Err faults.TooLarge
+decimal_in font (Some unit) n = if nat_le (n / 65536) 1073741823 then scaled (unit_length font unit n) else Err faults.TooLarge
 
 -- any other number in a unit: its size in the unit, with its sign
 abbrev pub in_unit : FontUnits → Unit → ℤ → Result ℤ NumFault
-in_unit font unit (pos n) = scaled (length_of font unit n)
-in_unit font unit (negsuc n) = scaled (neg_ℤ (length_of font unit (n + 1)))
+in_unit font unit (pos n) = scaled (unit_length font unit n)
+in_unit font unit (negsuc n) = scaled (neg_ℤ (unit_length font unit (n + 1)))
 
 -- radians in degrees: 11796480 is 180 and 205887 is pi, in 65536ths
 abbrev pub in_degrees : ℤ → Result ℤ NumFault
@@ -136,8 +136,8 @@ rounded (pos n) = floored (pos (n + 32768))
 rounded (negsuc n) = neg_ℤ (floored (pos (n + 1 + 32768)))
 
 -- one, 0 or minus one
-abbrev pub sign_of : ℤ → ℤ
-sign_of x = if unsigned_abs x == 0 then pos 0 else (if int_le (pos 0) x then pos 65536 else neg_ℤ (pos 65536))
+abbrev pub signum : ℤ → ℤ
+signum x = if unsigned_abs x == 0 then pos 0 else (if int_le (pos 0) x then pos 65536 else neg_ℤ (pos 65536))
 
 -- a function of one argument
 abbrev pub called_one : One → ℤ → Result ℤ NumFault
@@ -146,7 +146,7 @@ called_one Cos x = Ok (cosine x)
 called_one Tan x = tangent x
 called_one Sqrt x = square_root x
 called_one Abs x = Ok (pos (unsigned_abs x))
-called_one Sign x = Ok (sign_of x)
+called_one Sign x = Ok (signum x)
 called_one Floor x = scaled (floored x)
 called_one Ceil x = scaled (ceiled x)
 called_one Round x = scaled (rounded x)

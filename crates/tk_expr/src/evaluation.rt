@@ -1,15 +1,15 @@
 //! What an expression comes to.
 
-ghost use Rattle.std.specs.Prelude.{◌≡◌, ◌∷◌, ℕ, List, map};
-ghost use Rattle.tk_token.specs.Token.{token_of};
+ghost use Rattle.std.specs.Prelude.{◌≡◌, ◌∷◌};
 ghost use Rattle.tk_expr.specs.Machine as machine;
 ghost use Rattle.tk_expr.specs.Evaluated as spec;
-ghost use Rattle.tk_expr.specs.Evaluates.{Evaluates};
+ghost use Rattle.tk_expr.specs.Evaluates.{Evaluates, end_of};
 ghost use Rattle.tk_expr.specs.Steps.{Leads};
 ghost use Rattle.tk_expr.specs.Pieces.{pieces_of};
 
 use crate::machine::{Mode, State};
 use crate::pieces::next_piece;
+use crate::plain::plain_value;
 use crate::steps::misfit;
 use crate::values::Found;
 use crate::{FontUnits, Value};
@@ -17,7 +17,7 @@ use tk_token::{Fault, Tok};
 
 /// Where tokens run out: at the last of them, or at that place where there is none.
 fn end_of(list: &[Tok], at: u32) -> u32
-    ensures { (names : List (List ℕ)) → result ≡ spec.end_of at (map (token_of names) list.now) }
+    ensures { result ≡ end_of at list.now }
 {
     match list.split_last() {
         Some((last, _)) => last.at,
@@ -39,7 +39,7 @@ fn operand(font: &FontUnits, mode: Mode) -> Option<Found>
 impl State {
     /// The state behind all tokens, or the fault of the first piece that doesn't fit.
     fn run(&mut self, font: &FontUnits, list: &[Tok]) -> Result<(), Fault>
-        ensures { (names : List (List ℕ)) → Leads result self.new (machine.run font.now self.old (pieces_of (map (token_of names) list.now))) }
+        ensures { Leads result self.new (machine.run font.now self.old (pieces_of list.now)) }
     {
         let mut rest = list;
         while let Some((piece, tail)) = next_piece(rest) {
@@ -69,9 +69,19 @@ impl State {
 }
 
 /// The value of an expression; `at` is the place of an empty one.
-#[tactic(auto, unfolding(crate::specs::Evaluated::evaluated))]
 pub(crate) fn evaluate(list: &[Tok], font: &FontUnits, at: u32) -> Result<Value, Fault>
-    ensures { (names : List (List ℕ)) → result ≡ spec.evaluated font.now at (map (token_of names) list.now) }
+    ensures { result ≡ spec.evaluated font.now at list.now }
+{
+    match plain_value(list, font) {
+        Some(found) => found,
+        None => by_machine(list, font, at),
+    }
+}
+
+/// The same for any text.
+#[tactic(auto, unfolding(crate::specs::Evaluated::evaluated))]
+fn by_machine(list: &[Tok], font: &FontUnits, at: u32) -> Result<Value, Fault>
+    ensures { result ≡ spec.evaluated font.now at list.now }
 {
     let mut state = State::new();
     state.run(font, list)?;
@@ -88,8 +98,7 @@ pub(crate) fn evaluate(list: &[Tok], font: &FontUnits, at: u32) -> Result<Value,
 /// name.
 #[tactic(auto, using(crate::proofs::Runs::answer_means))]
 pub fn eval(list: &[Tok], font: FontUnits, at: u32) -> Result<Value, Fault>
-    ensures gives { (names : List (List ℕ)) → result ≡ spec.evaluated font at (map (token_of names) list.now) }
-    ensures means { (names : List (List ℕ)) → Evaluates font at (map (token_of names) list.now) result }
+    ensures { Evaluates font at list.now result }
 {
     evaluate(list, &font, at)
 }

@@ -9,6 +9,7 @@ mod number;
 mod operators;
 mod pairs;
 mod pieces;
+mod plain;
 mod settle;
 mod steps;
 #[cfg(test)]
@@ -16,7 +17,10 @@ mod tests;
 mod values;
 
 pub use evaluation::eval;
-pub use laws::{a_text_has_one_answer, evaluated_is_the_answer};
+pub use laws::{
+    a_fault_of_a_pair_stands_in_its_text, a_fault_of_a_vector_stands_at_its_place,
+    a_fault_stands_in_its_text, a_text_has_one_answer, evaluated_is_the_answer,
+};
 pub use pairs::{pair, vector};
 use tk_num::Scaled;
 

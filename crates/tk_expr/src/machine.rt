@@ -1,4 +1,9 @@
-//! The machine that reads an expression piece by piece.
+//! The machine that reads an expression piece by piece, in one pass and without a tree.
+//!
+//! An operator waits with its left operand until its right operand is whole: in `1+2*3` the sum waits with 1, then the
+//! product with 2, and where the pieces run out the product settles first, then the sum. A tighter operator that waits is
+//! settled when a looser one is read, so that at most one of each level waits. What waits outside a parenthesis is kept in
+//! the frame of that parenthesis.
 
 use crate::frames::Frames;
 use crate::number::Decimal;
@@ -44,13 +49,13 @@ pub enum Bracket {
     Each(Most, Option<Found>),
 }
 
-/// What is open.
+/// What is open. The first kind is first, so that a blank frame is all zeros.
 #[derive(Clone, Copy)]
 pub enum Frame {
-    /// A parenthesis, with what waits outside it.
-    Inside(Bracket, Pending),
     /// A `?` with its condition, before the `:`.
     Then(Found),
+    /// A parenthesis, with what waits outside it.
+    Inside(Bracket, Pending),
     /// A `?` with its condition and the value before the `:`, behind it.
     Else(Found, Found),
 }

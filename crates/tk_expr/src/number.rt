@@ -15,6 +15,9 @@ const PAST_WHOLE: u64 = 1_073_741_824;
 /// The digits after the point that count.
 const MOST_PLACES: u32 = 17;
 
+/// So many digits after the point can be counted in 64 bits.
+const SHORT_PLACES: u32 = 12;
+
 /// A decimal as far as it is read: its whole part, which stays at 1,073,741,824 once it is there, and the first digits
 /// after its point, at most 17, as one number, with their count. `at` is the place of its first digit or point.
 #[derive(Clone, Copy)]
@@ -136,6 +139,31 @@ impl Decimal {
 
 /// The 65536ths nearest to the digits of a fraction, ties upward.
 fn nearest(part: u64, count: u32) -> u64
+    requires few { count ≤ 17 }
+    requires below { part + 29 ≤ 29 * 10 ^ count }
+    ensures value { result ≡ nearest_65536th count part }
+    ensures small { result ≤ 1900544 }
+{
+    match count {
+        0 => 0,
+        1..=SHORT_PLACES => nearest_short(part, count),
+        _ => nearest_long(part, count),
+    }
+}
+
+/// The same in 64 bits.
+fn nearest_short(part: u64, count: u32) -> u64
+    requires few { count ≤ 12 }
+    requires below { part + 29 ≤ 29 * 10 ^ count }
+    ensures value { result ≡ nearest_65536th count part }
+    ensures small { result ≤ 1900544 }
+{
+    let unit = 10u64.pow(count);
+    (131_072 * part + unit) / (2 * unit)
+}
+
+/// The same in 128 bits.
+fn nearest_long(part: u64, count: u32) -> u64
     requires few { count ≤ 17 }
     requires below { part + 29 ≤ 29 * 10 ^ count }
     ensures value { result ≡ nearest_65536th count part }

@@ -1,213 +1,78 @@
 //! The numbers of a coordinate.
 
-ghost use Rattle.std.specs.Prelude.{◌≡◌, ◌+◌, ◌-◌, ◌<◌, ◌≤◌, ℕ, ℤ, List, length, true, false, drop, take, IfSome, IfOk, option_map, map};
+ghost use Rattle.std.specs.Prelude.{◌≡◌, ℤ, drop, option_map};
 ghost use Rattle.std.specs.List.{list_all};
 ghost use Rattle.tk_expr.specs.declared.ValuePair.TheVariants.{Plane, Polar};
-ghost use Rattle.tk_num.specs.Number.{scaled, product};
-ghost use Rattle.tk_token.specs.Token.{sign_of, token_of};
+ghost use Rattle.tk_token.specs.Groups as groups;
+ghost use Rattle.tk_token.specs.Groups.{cut, first_outside};
+ghost use Rattle.tk_token.specs.Kinds.{begins_and};
+ghost use Rattle.tk_token.specs.Spaces.{is_space_token};
+ghost use Rattle.tk_expr.specs.Evaluated.{evaluated};
+ghost use Rattle.tk_expr.specs.Evaluates.{Evaluation, IsEvaluation};
 ghost use Rattle.tk_expr.specs.Pairs as spec;
-ghost use Rattle.tk_expr.specs.Values as values;
-ghost use Rattle.tk_expr.specs.Runs.{test_of, width_of, tokens_of};
 
 use crate::evaluation::evaluate;
 use crate::values::{Found, placed};
 use crate::{FontUnits, Value, ValuePair};
 use tk_item::Point;
 use tk_num::{Scaled, cos, mul, sin};
-use tk_token::{Code, Fault, Kind, Tok};
+use tk_token::{Code, Fault, Sought, Tok, after_spaces, first_outside};
 
-/// What is sought outside braces.
-#[derive(Clone, Copy)]
-pub enum Sought {
-    Comma,
-    CommaOrColon,
-    /// The word `and`.
-    And,
-}
-
-/// The first tokens, so many.
-fn first_of(list: &[Tok], n: usize) -> &[Tok]
-    requires { n ≤ length list.now }
-    ensures { (names : List (List ℕ)) → tokens_of names result.now ≡ take n (tokens_of names list.now) }
+/// The tokens without the first ones, so many.
+fn without(list: &[Tok], n: usize) -> &[Tok]
+    ensures { result.now ≡ drop n list.now }
 {
-    list.split_at(n).0
-}
-
-/// The tokens behind the first ones, so many.
-fn behind(list: &[Tok], n: usize) -> &[Tok]
-    requires { n ≤ length list.now }
-    ensures { (names : List (List ℕ)) → tokens_of names result.now ≡ drop n (tokens_of names list.now) }
-{
-    list.split_at(n).1
-}
-
-/// How many braces are open behind a token.
-fn depth_behind(kind: Kind, depth: usize) -> usize
-    requires { depth < 18446744073709551615 }
-    ensures value { (names : List (List ℕ)) → result ≡ spec.depth_behind (sign_of names kind) depth }
-    ensures within { result ≤ depth + 1 }
-{
-    match kind {
-        Kind::Open => depth + 1,
-        Kind::Close => depth.saturating_sub(1),
-        _ => depth,
+    if n <= list.len() {
+        list.split_at(n).1
+    } else {
+        &[]
     }
 }
 
-fn is_char(kind: Kind, wanted: char) -> bool
-    ensures { (names : List (List ℕ)) → result ≡ spec.is_char wanted (sign_of names kind) }
+/// The tokens before the first such character outside braces, and those behind it.
+fn before_char(list: &[Tok], wanted: char) -> Option<(&[Tok], &[Tok])>
+    ensures { option_map (λ found. cut found.0.now found.1.now) result ≡ groups.before_char wanted list.now }
 {
-    match kind {
-        Kind::Char(c) => c == wanted,
-        _ => false,
-    }
+    let (front, rest) = first_outside(list, Sought::Char(wanted))?;
+    Some((front, without(rest, 1)))
 }
 
-/// Whether that character stands in front.
-fn begins_char(list: &[Tok], wanted: char) -> bool
-    ensures value { (names : List (List ℕ)) → result ≡ spec.begins_char wanted (tokens_of names list.now) }
-    ensures within { result ≡ true → 1 ≤ length list.now }
-{
-    match list.split_first() {
-        Some((first, _)) => is_char(first.kind, wanted),
-        None => false,
-    }
-}
-
-/// Whether the word `and` stands in front.
-fn begins_and(list: &[Tok]) -> bool
-    ensures value { (names : List (List ℕ)) → result ≡ spec.is_and (tokens_of names list.now) }
-    ensures within { result ≡ true → 3 ≤ length list.now }
-{
-    let Some((first, rest)) = list.split_first() else {
-        return false;
-    };
-    let Some((second, rest)) = rest.split_first() else {
-        return false;
-    };
-    let Some((third, _)) = rest.split_first() else {
-        return false;
-    };
-    is_char(first.kind, 'a') && (is_char(second.kind, 'n') && is_char(third.kind, 'd'))
-}
-
-/// Whether what is sought stands in front.
-fn begins(list: &[Tok], sought: Sought) -> bool
-    ensures value { (names : List (List ℕ)) → result ≡ test_of sought (tokens_of names list.now) }
-    ensures within { result ≡ true → width_of sought ≤ length list.now }
-{
-    match sought {
-        Sought::And => begins_and(list),
-        Sought::Comma => begins_char(list, ','),
-        Sought::CommaOrColon => begins_char(list, ',') || begins_char(list, ':'),
-    }
-}
-
-/// How many tokens stand before the first place, outside braces, at which what is sought stands.
-fn find_outside(list: &[Tok], sought: Sought) -> Option<usize>
-    ensures value { (names : List (List ℕ)) → result ≡ spec.find_outside (test_of sought) (tokens_of names list.now) }
-    ensures within { IfSome result (λ n. n + width_of sought ≤ length list.now) }
-{
-    let mut depth = 0;
-    let mut rest = list;
-    while let Some((first, tail)) = rest.split_first() {
-        if depth == 0 && begins(rest, sought) {
-            return Some(list.len() - rest.len());
-        }
-        depth = depth_behind(first.kind, depth);
-        rest = tail;
-    }
-    None
-}
-
-fn is_space(kind: Kind) -> bool
-    ensures { (names : List (List ℕ)) → result ≡ spec.is_space (sign_of names kind) }
-{
-    matches!(kind, Kind::Space)
-}
-
-fn is_open(kind: Kind) -> bool
-    ensures { (names : List (List ℕ)) → result ≡ spec.is_open (sign_of names kind) }
-{
-    matches!(kind, Kind::Open)
-}
-
-/// Whether all tokens are gaps.
 fn are_spaces(list: &[Tok]) -> bool
-    ensures { (names : List (List ℕ)) → result ≡ list_all spec.is_space_token (tokens_of names list.now) }
+    ensures { result ≡ list_all is_space_token list.now }
 {
-    let mut rest = list;
-    while let Some((first, tail)) = rest.split_first() {
-        if !is_space(first.kind) {
-            return false;
-        }
-        rest = tail;
-    }
-    true
+    list.iter().all(|tok| tok.kind.is_space())
 }
 
-/// The tokens after the gaps in front.
-#[tactic(auto, using(crate::proofs::Shifts::space_passed))]
-fn after_spaces(list: &[Tok]) -> &[Tok]
-    ensures { (names : List (List ℕ)) → tokens_of names result.now ≡ spec.after_spaces (tokens_of names list.now) }
+/// The contents of a group whose `{` was read, where only Spaces stand behind its `}`.
+fn alone(list: &[Tok]) -> Option<&[Tok]>
+    ensures { option_map (λ inside. inside.now) result ≡ spec.alone (groups.group_of list.now) }
 {
-    let mut rest = list;
-    while let Some((first, tail)) = rest.split_first() {
-        if !is_space(first.kind) {
-            return rest;
-        }
-        rest = tail;
-    }
-    rest
-}
-
-/// How many tokens stand behind a `{` before its `}`.
-fn closing(list: &[Tok]) -> Option<usize>
-    ensures value { (names : List (List ℕ)) → result ≡ spec.closing 1 (tokens_of names list.now) }
-    ensures within { IfSome result (λ n. n < length list.now) }
-{
-    let mut depth = 1;
-    let mut rest = list;
-    while let Some((first, tail)) = rest.split_first() {
-        depth = depth_behind(first.kind, depth);
-        if depth == 0 {
-            return Some(list.len() - rest.len());
-        }
-        rest = tail;
-    }
-    None
-}
-
-/// Behind a `{` the tokens up to its `}`, where only gaps stand behind that.
-fn group_behind(list: &[Tok]) -> Option<&[Tok]>
-    ensures { (names : List (List ℕ)) → option_map (λ inside. tokens_of names inside.now) result ≡ spec.group_at (tokens_of names list.now) (spec.closing 1 (tokens_of names list.now)) }
-{
-    let n = closing(list)?;
-    if are_spaces(behind(list, n + 1)) {
-        Some(first_of(list, n))
+    let (inside, rest) = first_outside(list, Sought::Close)?;
+    if are_spaces(without(rest, 1)) {
+        Some(inside)
     } else {
         None
     }
 }
 
-/// What stands in the braces of tokens that are one group.
-fn group(list: &[Tok]) -> Option<&[Tok]>
-    ensures { (names : List (List ℕ)) → option_map (λ inside. tokens_of names inside.now) result ≡ spec.group (tokens_of names list.now) }
+/// The contents of tokens that are one group and Spaces behind it.
+fn contents(list: &[Tok]) -> Option<&[Tok]>
+    ensures { option_map (λ inside. inside.now) result ≡ spec.contents list.now }
 {
     let (first, rest) = list.split_first()?;
-    if is_open(first.kind) {
-        group_behind(rest)
+    if first.kind.is_open() {
+        alone(rest)
     } else {
         None
     }
 }
 
-/// A part of a coordinate: where it is one group, gaps apart, it is what stands in the braces.
+/// A part of a coordinate: where it is one group, Spaces apart, it is what stands in the braces.
 #[tactic(auto, unfolding(crate::specs::Pairs::part))]
 fn part(list: &[Tok]) -> &[Tok]
-    ensures { (names : List (List ℕ)) → tokens_of names result.now ≡ spec.part (tokens_of names list.now) }
+    ensures { result.now ≡ spec.part list.now }
 {
-    match group(after_spaces(list)) {
+    match contents(after_spaces(list)) {
         Some(inside) => inside,
         None => list,
     }
@@ -215,7 +80,7 @@ fn part(list: &[Tok]) -> &[Tok]
 
 /// The value of a part; `at` is the place of an empty one.
 fn part_value(list: &[Tok], font: &FontUnits, at: u32) -> Result<Value, Fault>
-    ensures { (names : List (List ℕ)) → result ≡ spec.part_value font.now at (tokens_of names list.now) }
+    ensures { result ≡ spec.part_value evaluated font.now at list.now }
 {
     evaluate(part(list), font, at)
 }
@@ -223,9 +88,9 @@ fn part_value(list: &[Tok], font: &FontUnits, at: u32) -> Result<Value, Fault>
 /// The form `x,y`, which has no second `,`.
 #[tactic(auto, unfolding(crate::specs::Pairs::plane))]
 fn plane(front: &[Tok], back: &[Tok], font: &FontUnits, at: u32) -> Result<ValuePair, Fault>
-    ensures { (names : List (List ℕ)) → result ≡ spec.plane font.now at (tokens_of names front.now) (tokens_of names back.now) }
+    ensures { result ≡ spec.plane evaluated font.now at front.now back.now }
 {
-    if find_outside(back, Sought::Comma).is_some() {
+    if before_char(back, ',').is_some() {
         return Err(Fault {
             code: Code::Coordinate,
             at,
@@ -238,12 +103,12 @@ fn plane(front: &[Tok], back: &[Tok], font: &FontUnits, at: u32) -> Result<Value
 
 /// The radii `r and s`, or `r`, which is both.
 fn radii(angle: Scaled, back: &[Tok], font: &FontUnits, at: u32) -> Result<ValuePair, Fault>
-    ensures { (names : List (List ℕ)) → result ≡ spec.radii font.now at angle (tokens_of names back.now) (spec.find_outside spec.is_and (tokens_of names back.now)) }
+    ensures { result ≡ spec.radii evaluated font.now at angle back.now (first_outside begins_and back.now) }
 {
-    match find_outside(back, Sought::And) {
-        Some(n) => {
-            let r = part_value(first_of(back, n), font, at)?;
-            let s = part_value(behind(back, n + 3), font, at)?;
+    match first_outside(back, Sought::And) {
+        Some((front, rest)) => {
+            let r = part_value(front, font, at)?;
+            let s = part_value(without(rest, 3), font, at)?;
             Ok(ValuePair::Polar(angle, r, s))
         }
         None => {
@@ -256,39 +121,44 @@ fn radii(angle: Scaled, back: &[Tok], font: &FontUnits, at: u32) -> Result<Value
 /// The forms `a:r` and `a:r and s`.
 #[tactic(auto, unfolding(crate::specs::Pairs::polar))]
 fn polar(front: &[Tok], back: &[Tok], font: &FontUnits, at: u32) -> Result<ValuePair, Fault>
-    ensures { (names : List (List ℕ)) → result ≡ spec.polar font.now at (tokens_of names front.now) (tokens_of names back.now) }
+    ensures { result ≡ spec.polar evaluated font.now at front.now back.now }
 {
     let angle = evaluate(front, font, at)?;
     radii(angle.number, back, font, at)
 }
 
-/// The form whose sign stands behind `n` tokens.
-fn formed(list: &[Tok], n: usize, font: &FontUnits, at: u32) -> Result<ValuePair, Fault>
-    requires { n < length list.now }
-    ensures { (names : List (List ℕ)) → result ≡ spec.formed font.now at (tokens_of names list.now) n }
+/// The form of a text without a `,` outside braces.
+fn by_colon(list: &[Tok], font: &FontUnits, at: u32) -> Result<Option<ValuePair>, Fault>
+    ensures { result ≡ spec.by_colon evaluated font.now at (groups.before_char 58 list.now) }
 {
-    let (front, back) = (first_of(list, n), behind(list, n + 1));
-    if begins(behind(list, n), Sought::Comma) {
-        plane(front, back, font, at)
-    } else {
-        polar(front, back, font, at)
+    match before_char(list, ':') {
+        Some((front, back)) => Ok(Some(polar(front, back, font, at)?)),
+        None => Ok(None),
+    }
+}
+
+/// The numbers of a coordinate, as the machine evaluates their texts.
+#[tactic(auto, unfolding(crate::specs::Pairs::paired))]
+fn paired(list: &[Tok], font: &FontUnits, at: u32) -> Result<Option<ValuePair>, Fault>
+    ensures { result ≡ spec.paired evaluated font.now at list.now }
+{
+    match before_char(list, ',') {
+        Some((front, back)) => Ok(Some(plane(front, back, font, at)?)),
+        None => by_colon(list, font, at),
     }
 }
 
 /// The numbers of a coordinate of the form `x,y`, `a:r` or `a:r and s`.
 ///
-/// The first `,` or `:` outside braces tells the form; where there is none, there is no pair. A part of the
-/// form `{..}` loses its braces, but not the angle. The parts are read from left to right, with the faults
-/// of `eval`; a part that runs out does so at its last token, or at `at` where it is empty. A second `,` outside
-/// braces is refused as `Coordinate` at `at`, before any part is read.
-#[tactic(auto, unfolding(crate::specs::Pairs::paired))]
+/// A `,` outside braces tells the form, else a `:`, wherever they stand: `(0<1?1:2,3)` is of the form `x,y`. Where there
+/// is neither, there is no pair. A part of the form `{..}` loses its braces, but not the angle. The parts are read from
+/// left to right, with the faults of `eval`; a part that runs out does so at its last token, or at `at` where it is
+/// empty. A second `,` outside braces is refused as `Coordinate` at `at`, before any part is read.
+#[tactic(auto, using(crate::proofs::Evaluations::paired_by))]
 pub fn pair(list: &[Tok], font: FontUnits, at: u32) -> Result<Option<ValuePair>, Fault>
-    ensures gives { (names : List (List ℕ)) → result ≡ spec.paired font at (map (token_of names) list.now) }
+    ensures { (ev : Evaluation) → IsEvaluation ev → result ≡ spec.paired ev font at list.now }
 {
-    match find_outside(list, Sought::CommaOrColon) {
-        Some(n) => Ok(Some(formed(list, n, &font, at)?)),
-        None => Ok(None),
-    }
+    paired(list, &font, at)
 }
 
 /// The length of a number along a vector of that length.

@@ -1,11 +1,10 @@
 //! The pieces of an expression.
 
-ghost use Rattle.std.specs.Prelude.{◌≡◌, ℕ, ◌<◌, ◌≤◌, [], ◌∷◌, ◌++◌, List, true, false, length, map, not, MatchOption, IfSome, IfNone};
+ghost use Rattle.std.specs.Prelude.{◌≡◌, ◌<◌, ◌≤◌, [], ◌∷◌, ◌++◌, true, false, length, map, not, MatchOption, IfSome, IfNone};
 ghost use Rattle.std.specs.List.{prefix_len, position, list_all};
 ghost use Rattle.arrayvec.specs.ArrayString.{array_string_len};
-ghost use Rattle.tk_token.specs.Token.{token_of, sign_of};
 ghost use Rattle.tk_expr.specs.Pieces as spec;
-ghost use Rattle.tk_expr.specs.Runs.{is_letter_kind, letter_of_kind, is_letter_tok, letter_of};
+ghost use Rattle.tk_expr.specs.Letters.{is_letter_kind, letter_of_kind, is_letter_tok, letter_of};
 
 use arrayvec::ArrayString;
 use tk_num::Unit;
@@ -122,7 +121,7 @@ fn char_mark(c: char) -> Mark
 
 /// What a single token is.
 fn single_mark(kind: Kind) -> Mark
-    ensures { (names : List (List ℕ)) → result ≡ spec.mark_of (sign_of names kind) }
+    ensures { result ≡ spec.mark_of kind }
 {
     match kind {
         Kind::Char(c) => char_mark(c),
@@ -244,7 +243,7 @@ fn run_mark(letters: &[Tok]) -> Mark
 
 /// The piece in front, and the tokens after it.
 pub(crate) fn next_piece(list: &[Tok]) -> Option<(Piece, &[Tok])>
-    ensures pieces { (names : List (List ℕ)) → MatchOption result (spec.pieces_of (map (token_of names) list.now) ≡ []) (λ found. spec.pieces_of (map (token_of names) list.now) ≡ found.0 ∷ spec.pieces_of (map (token_of names) found.1.now)) }
+    ensures pieces { MatchOption result (spec.pieces_of list.now ≡ []) (λ found. spec.pieces_of list.now ≡ found.0 ∷ spec.pieces_of found.1.now) }
     ensures shorter { IfSome result (λ found. length found.1.now < length list.now) }
 {
     let (first, tail) = list.split_first()?;

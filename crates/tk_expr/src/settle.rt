@@ -1,16 +1,17 @@
 //! Operators and signs that meet their right operand.
 
-ghost use Rattle.std.specs.Prelude.{◌≡◌};
+ghost use Rattle.std.specs.Prelude.{◌≡◌, None};
 ghost use Rattle.tk_expr.specs.declared.operators.Operator.TheVariants.{Raise, Both, Either};
 ghost use Rattle.tk_expr.specs.Machine as spec;
+ghost use Rattle.tk_expr.specs.Machine.{no_signs};
 
 use crate::machine::{Pending, Waiting};
 use crate::operators::{Operator, Signs};
 use crate::values::{Found, operated, placed};
 
 /// An operator that waits, with its right operand.
-fn applied(waiting: Option<Waiting>, x: Found) -> Found
-    ensures { result ≡ spec.applied waiting x }
+fn applied(waiting: &Option<Waiting>, x: Found) -> Found
+    ensures { result ≡ spec.applied waiting.now x }
 {
     match waiting {
         Some(waiting) => placed(waiting.at, operated(waiting.operator, waiting.left?, x?)),
@@ -31,7 +32,7 @@ impl Pending {
     fn powered(&self, x: Found) -> Found
         ensures { result ≡ spec.powered self.now x }
     {
-        applied(self.power, self.exponent.of_found(x))
+        applied(&self.power, self.exponent.of_found(x))
     }
 
     /// The same up to products.
@@ -39,7 +40,7 @@ impl Pending {
     fn multiplied(&self, x: Found) -> Found
         ensures { result ≡ spec.multiplied self.now x }
     {
-        applied(self.product, self.signs.of_found(self.powered(x)))
+        applied(&self.product, self.signs.of_found(self.powered(x)))
     }
 
     /// The same up to sums.
@@ -47,7 +48,7 @@ impl Pending {
     fn added(&self, x: Found) -> Found
         ensures { result ≡ spec.added self.now x }
     {
-        applied(self.sum, self.multiplied(x))
+        applied(&self.sum, self.multiplied(x))
     }
 
     /// The same up to comparisons.
@@ -55,7 +56,7 @@ impl Pending {
     fn compared(&self, x: Found) -> Found
         ensures { result ≡ spec.compared self.now x }
     {
-        applied(self.comparison, self.added(x))
+        applied(&self.comparison, self.added(x))
     }
 
     /// The same up to conjunctions.
@@ -63,7 +64,7 @@ impl Pending {
     fn conjoined(&self, x: Found) -> Found
         ensures { result ≡ spec.conjoined self.now x }
     {
-        applied(self.conjunction, self.compared(x))
+        applied(&self.conjunction, self.compared(x))
     }
 
     /// The same up to disjunctions, which are all that waits.
@@ -71,114 +72,95 @@ impl Pending {
     pub(crate) fn disjoined(&self, x: Found) -> Found
         ensures { result ≡ spec.disjoined self.now x }
     {
-        applied(self.disjunction, self.conjoined(x))
+        applied(&self.disjunction, self.conjoined(x))
     }
 
-    /// What waits once an operator is read behind an operand: all that binds tighter is settled.
-    pub(crate) fn with_operator(&self, operator: Operator, at: u32, x: Found) -> Pending
-        ensures { result ≡ spec.waits operator at x self.now }
+    /// Waits with an operator that was read behind an operand: all that binds as tightly or tighter is settled.
+    pub(crate) fn wait(&mut self, operator: Operator, at: u32, x: Found)
+        ensures { self.new ≡ spec.waits operator at x self.old }
     {
         match operator {
-            Operator::Raise => self.with_power(at, x),
-            Operator::Multiply | Operator::Divide => self.with_product(operator, at, x),
-            Operator::Add | Operator::Subtract => self.with_sum(operator, at, x),
-            Operator::Both => self.with_conjunction(at, x),
-            Operator::Either => self.with_disjunction(at, x),
-            _ => self.with_comparison(operator, at, x),
+            Operator::Raise => self.wait_power(at, x),
+            Operator::Multiply | Operator::Divide => self.wait_product(operator, at, x),
+            Operator::Add | Operator::Subtract => self.wait_sum(operator, at, x),
+            Operator::Both => self.wait_conjunction(at, x),
+            Operator::Either => self.wait_disjunction(at, x),
+            _ => self.wait_comparison(operator, at, x),
         }
     }
 
-    fn with_power(&self, at: u32, x: Found) -> Pending
-        ensures { result ≡ spec.waits Raise at x self.now }
+    fn wait_power(&mut self, at: u32, x: Found)
+        ensures { self.new ≡ spec.waits Raise at x self.old }
     {
-        Pending {
-            exponent: Signs::default(),
-            power: Some(Waiting {
-                left: self.powered(x),
-                operator: Operator::Raise,
-                at,
-            }),
-            signs: self.signs,
-            product: self.product,
-            sum: self.sum,
-            comparison: self.comparison,
-            conjunction: self.conjunction,
-            disjunction: self.disjunction,
-        }
+        let left = self.powered(x);
+        self.exponent = Signs::default();
+        self.power = Some(Waiting {
+            left,
+            operator: Operator::Raise,
+            at,
+        });
     }
 
-    fn with_product(&self, operator: Operator, at: u32, x: Found) -> Pending
-        ensures { result ≡ spec.product_waits operator at x self.now }
+    /// No power waits any more, and no sign before one.
+    fn settle_power(&mut self)
+        ensures { self.new ≡ record self.old { exponent = no_signs; power = None; signs = no_signs } }
     {
-        Pending {
-            product: Some(Waiting {
-                left: self.multiplied(x),
-                operator,
-                at,
-            }),
-            sum: self.sum,
-            comparison: self.comparison,
-            conjunction: self.conjunction,
-            disjunction: self.disjunction,
-            ..Pending::new()
-        }
+        self.exponent = Signs::default();
+        self.power = None;
+        self.signs = Signs::default();
     }
 
-    fn with_sum(&self, operator: Operator, at: u32, x: Found) -> Pending
-        ensures { result ≡ spec.sum_waits operator at x self.now }
+    fn wait_product(&mut self, operator: Operator, at: u32, x: Found)
+        ensures { self.new ≡ spec.product_waits operator at x self.old }
     {
-        Pending {
-            sum: Some(Waiting {
-                left: self.added(x),
-                operator,
-                at,
-            }),
-            comparison: self.comparison,
-            conjunction: self.conjunction,
-            disjunction: self.disjunction,
-            ..Pending::new()
-        }
+        let left = self.multiplied(x);
+        self.settle_power();
+        self.product = Some(Waiting { left, operator, at });
     }
 
-    fn with_comparison(&self, operator: Operator, at: u32, x: Found) -> Pending
-        ensures { result ≡ spec.comparison_waits operator at x self.now }
+    fn wait_sum(&mut self, operator: Operator, at: u32, x: Found)
+        ensures { self.new ≡ spec.sum_waits operator at x self.old }
     {
-        Pending {
-            comparison: Some(Waiting {
-                left: self.compared(x),
-                operator,
-                at,
-            }),
-            conjunction: self.conjunction,
-            disjunction: self.disjunction,
-            ..Pending::new()
-        }
+        let left = self.added(x);
+        self.settle_power();
+        self.product = None;
+        self.sum = Some(Waiting { left, operator, at });
     }
 
-    fn with_conjunction(&self, at: u32, x: Found) -> Pending
-        ensures { result ≡ spec.waits Both at x self.now }
+    fn wait_comparison(&mut self, operator: Operator, at: u32, x: Found)
+        ensures { self.new ≡ spec.comparison_waits operator at x self.old }
     {
-        Pending {
-            conjunction: Some(Waiting {
-                left: self.conjoined(x),
-                operator: Operator::Both,
-                at,
-            }),
-            disjunction: self.disjunction,
-            ..Pending::new()
-        }
+        let left = self.compared(x);
+        self.settle_power();
+        self.product = None;
+        self.sum = None;
+        self.comparison = Some(Waiting { left, operator, at });
     }
 
-    fn with_disjunction(&self, at: u32, x: Found) -> Pending
-        ensures { result ≡ spec.waits Either at x self.now }
+    fn wait_conjunction(&mut self, at: u32, x: Found)
+        ensures { self.new ≡ spec.waits Both at x self.old }
     {
-        Pending {
-            disjunction: Some(Waiting {
-                left: self.disjoined(x),
-                operator: Operator::Either,
-                at,
-            }),
-            ..Pending::new()
-        }
+        let left = self.conjoined(x);
+        self.settle_power();
+        self.product = None;
+        self.sum = None;
+        self.comparison = None;
+        self.conjunction = Some(Waiting {
+            left,
+            operator: Operator::Both,
+            at,
+        });
+    }
+
+    fn wait_disjunction(&mut self, at: u32, x: Found)
+        ensures { self.new ≡ spec.waits Either at x self.old }
+    {
+        let left = self.disjoined(x);
+        *self = Pending::new();
+        self.disjunction = Some(Waiting {
+            left,
+            operator: Operator::Either,
+            at,
+        });
     }
 }

@@ -242,7 +242,7 @@ impl State {
     fn operate(&mut self, operator: Operator, mode: Mode, x: Found, at: u32) -> Result<(), Fault>
         ensures { Leads result self.new (spec.operator operator mode at x self.old) }
     {
-        self.pending = self.pending.with_operator(operator, at, x);
+        self.pending.wait(operator, at, x);
         self.turn(mode)
     }
 
@@ -267,7 +267,7 @@ impl State {
 
     /// A `)` behind an operand.
     fn end(&mut self, x: Found, at: u32) -> Result<(), Fault>
-        ensures { Leads result self.new (spec.right at (spec.closed_behind x self.old).value (spec.closed_behind x self.old).frames self.old) }
+        ensures { Leads result self.new (spec.at_right at (spec.closed_behind x self.old).value (spec.closed_behind x self.old).frames self.old) }
     {
         let value = self.close(x);
         match self.frames.pop() {
@@ -301,7 +301,7 @@ impl State {
 
     /// A `,` behind an operand.
     fn separate(&mut self, x: Found, at: u32) -> Result<(), Fault>
-        ensures { Leads result self.new (spec.comma at (spec.closed_behind x self.old).value (spec.closed_behind x self.old).frames self.old) }
+        ensures { Leads result self.new (spec.at_comma at (spec.closed_behind x self.old).value (spec.closed_behind x self.old).frames self.old) }
     {
         let value = self.close(x);
         match self.frames.pop() {
@@ -342,7 +342,7 @@ impl State {
 
     /// A `:` behind an operand.
     fn otherwise(&mut self, x: Found, at: u32) -> Result<(), Fault>
-        ensures { Leads result self.new (spec.colon at (spec.closed_behind x self.old).value (spec.closed_behind x self.old).frames self.old) }
+        ensures { Leads result self.new (spec.at_colon at (spec.closed_behind x self.old).value (spec.closed_behind x self.old).frames self.old) }
     {
         let value = self.close(x);
         match self.frames.pop() {

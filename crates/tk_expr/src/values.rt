@@ -150,7 +150,7 @@ pub(crate) fn chosen(condition: Scaled, x: Scaled, y: Scaled) -> Scaled
 /// A size, which isn't negative, in a unit.
 fn size_in(font: &FontUnits, unit: Unit, size: u64) -> Result<Scaled, NumFault>
     requires { size / 65536 ≤ 1073741823 }
-    ensures { result ≡ scaled (spec.length_of font.now unit size) }
+    ensures { result ≡ scaled (spec.unit_length font.now unit size) }
 {
     let (whole, parts) = (size / 65536, size % 65536);
     with_unit(whole as i64, parts as i64, unit, font.em, font.ex)
@@ -224,8 +224,8 @@ fn rounded(x: Scaled) -> i64
 }
 
 /// One, 0 or minus one.
-fn sign_of(x: Scaled) -> Scaled
-    ensures { result ≡ spec.sign_of x }
+fn signum(x: Scaled) -> Scaled
+    ensures { result ≡ spec.signum x }
 {
     if x.sp() == 0 {
         return number(0);
@@ -247,7 +247,7 @@ pub(crate) fn called_one(function: One, x: Scaled) -> Result<Scaled, NumFault>
         One::Tan => tan(x),
         One::Sqrt => root(x),
         One::Abs => Ok(number(x.sp().abs())),
-        One::Sign => Ok(sign_of(x)),
+        One::Sign => Ok(signum(x)),
         One::Floor => in_range(floored(x.sp())),
         One::Ceil => in_range(ceiled(x)),
         One::Round => in_range(rounded(x)),

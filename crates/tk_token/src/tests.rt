@@ -1,7 +1,10 @@
 //! What no clause says: that the calls succeed with ample memory, and some values worked out by hand.
 
-use crate::{Code, Fault, Kind, Names, Refusal, Tok, lex, place};
-use std::alloc::Global;
+use crate::{
+    Code, Fault, Kind, Names, Refusal, Sought, Tok, after_spaces, begins_char, closes_nothing,
+    depth_after, first_outside, lex, place, trimmed,
+};
+use std::alloc::{AllocError, Global};
 use std::process::Abort;
 use std::test::Fail;
 
@@ -82,85 +85,25 @@ const AT: [(&str, &[u32]); 8] = [
     ("%\u{10ffff}\n#", &[6]),
 ];
 
-/// Sources with their faults.
-const FAULTS: [(&[u8], Code, u32); 49] = [
-    (b"a\xff", Code::NotUtf8, 1),
-    // A byte that follows none.
-    (b"\x80", Code::NotUtf8, 0),
-    (b"ab\xbfc", Code::NotUtf8, 2),
-    // Longer than need be.
-    (b"\xc0\x80", Code::NotUtf8, 0),
-    (b"\xc1\xbf", Code::NotUtf8, 0),
-    (b"a\xe0\x9f\xbf", Code::NotUtf8, 1),
-    (b"\xf0\x8f\xbf\xbf", Code::NotUtf8, 0),
-    // Surrogates, the first and the last.
-    (b"\xed\xa0\x80", Code::NotUtf8, 0),
-    (b"\xed\xbf\xbf", Code::NotUtf8, 0),
-    // Past U+10FFFF.
-    (b"x\xf4\x90\x80\x80", Code::NotUtf8, 1),
-    (b"\xf5\x80\x80\x80", Code::NotUtf8, 0),
-    (b"\xfe", Code::NotUtf8, 0),
-    // Cut short, at the end and before another character.
-    (b"\xc3", Code::NotUtf8, 0),
-    (b"\xc3\xa9\xc3", Code::NotUtf8, 2),
-    (b"\xc3a", Code::NotUtf8, 0),
-    (b"\xe2\x82", Code::NotUtf8, 0),
-    (b"a\xe2\x82b", Code::NotUtf8, 1),
-    (b"\xe2\xc3\xa9", Code::NotUtf8, 0),
-    (b"\xf0\x9f\x98", Code::NotUtf8, 0),
-    (b"ab\xf0\x9f", Code::NotUtf8, 2),
-    (b"\xf0\x9f\x98\xc3\xa9", Code::NotUtf8, 0),
-    // It is asked of the whole source first, also in a comment.
-    (b"}\x07%\xff", Code::NotUtf8, 3),
-    (b"\xef\xbb\xbf\xff", Code::NotUtf8, 3),
-    (b"a\x07", Code::BadChar, 1),
-    (b"\x00", Code::BadChar, 0),
-    (b"\x08", Code::BadChar, 0),
-    (b"\t\n\x0b", Code::BadChar, 2),
-    (b"\x0c", Code::BadChar, 0),
-    (b"\r\x0e", Code::BadChar, 1),
-    (b" \x1f", Code::BadChar, 1),
-    // U+FFFE and U+FFFF; U+FFFD is a character as others.
-    (b"a\xef\xbf\xbe", Code::BadChar, 1),
-    (b"\xef\xbf\xbd\xef\xbf\xbf", Code::BadChar, 3),
-    // It is asked of the whole source, also in a comment and after a `\`.
-    (b"}%\x01", Code::BadChar, 2),
-    (b"\xc3\xa9\\\x1b", Code::BadChar, 3),
-    (b"}", Code::Brace, 0),
-    (b"{}}", Code::Brace, 2),
-    (b"{{}}}{", Code::Brace, 4),
-    // The innermost that is left open.
-    (b"{", Code::Brace, 0),
-    (b"{{}", Code::Brace, 0),
-    (b"{}{{a", Code::Brace, 3),
-    (b"{{{}", Code::Brace, 1),
-    (b"\xc3\xa9{", Code::Brace, 2),
-    (b"\xef\xbb\xbf{", Code::Brace, 3),
-    // A `}` too many comes before a `{` left open.
-    (b"}{", Code::Brace, 0),
-    // Braces in comments and after a `\` aren't asked.
-    (b"{%}\n", Code::Brace, 0),
-    (b"%{\n}", Code::Brace, 3),
-    (b"{\\}", Code::Brace, 0),
-    (b"\\{}", Code::Brace, 2),
-    (b"\\\\}", Code::Brace, 2),
-];
-
-/// What stands before a place, and its line and column.
-const PLACES: [(&str, u32, u32); 10] = [
-    ("", 1, 1),
-    ("ab", 1, 3),
-    ("ab\n", 2, 1),
-    ("ab\n\nc", 3, 2),
-    // `é` has two bytes, and `€` three.
-    ("é", 1, 2),
-    ("é\n€x", 2, 3),
-    // A CR is a character, and ends no line.
-    ("a\rb", 1, 4),
-    ("a\r\n", 2, 1),
-    // So is a byte order mark.
-    ("\u{feff}\\x", 1, 4),
-    ("\n\n\n€€€€€€€€€€€€€€€€\n\u{10ffff}", 5, 2),
+/// Texts, what is sought in them outside braces, and how many tokens stand before it, if it is there.
+const SEARCHES: [(&str, Sought, Option<usize>); 16] = [
+    ("a,b,c", Sought::Char(','), Some(1)),
+    ("{a,b},c", Sought::Char(','), Some(5)),
+    ("{a,{b},c}", Sought::Char(','), None),
+    ("a", Sought::Char(','), None),
+    // A `}` that closes nothing ends the search, also where more is open behind it.
+    ("a},b", Sought::Char(','), None),
+    ("{}}{,}", Sought::Char(','), None),
+    ("a{b}}c", Sought::Close, Some(4)),
+    ("{{}}", Sought::Close, None),
+    ("a-|b", Sought::Corner, Some(1)),
+    ("a|-b-|c", Sought::Corner, Some(1)),
+    ("{a-|b}", Sought::Corner, None),
+    ("a- |b", Sought::Corner, None),
+    ("1 and 2", Sought::And, Some(2)),
+    ("1an2and", Sought::And, Some(4)),
+    ("{and}an", Sought::And, None),
+    ("", Sought::And, None),
 ];
 
 fn shown(rt: &impl Abort, alloc: Global, source: &str) -> Result<String, Fail> {
@@ -192,17 +135,27 @@ fn shown(rt: &impl Abort, alloc: Global, source: &str) -> Result<String, Fail> {
     Ok(text)
 }
 
+/// The tokens of a text, which may have a `}` too many: its braces are cut one by one.
+fn toks(alloc: Global, text: &str) -> Result<Vec<Tok>, AllocError> {
+    let mut toks = Vec::new(alloc);
+    for character in text.chars() {
+        let kind = match character {
+            '{' => Kind::Open,
+            '}' => Kind::Close,
+            ' ' => Kind::Space,
+            _ => Kind::Char(character),
+        };
+        toks.push(Tok { kind, at: 0 })?;
+    }
+    Ok(toks)
+}
+
 #[test]
 fn sources_are_cut_into_tokens(rt: HostRuntime) -> Result<(), Fail> {
     for (source, toks) in &CUTS {
         let text = shown(&rt, rt.alloc(), source)?;
         assert_eq!(rt; text.as_str(), *toks, "{source}");
     }
-    Ok(())
-}
-
-#[test]
-fn tokens_stand_at_their_first_bytes(rt: HostRuntime) -> Result<(), Fail> {
     for (source, places) in &AT {
         let bytes = source.as_bytes();
         assert!(rt; bytes.len() < 100);
@@ -215,153 +168,44 @@ fn tokens_stand_at_their_first_bytes(rt: HostRuntime) -> Result<(), Fail> {
             assert_eq!(rt; tok.at, *at, "{source}");
         }
     }
-    Ok(())
-}
-
-#[test]
-fn a_token_has_its_place_and_its_number(rt: HostRuntime) -> Result<(), Fail> {
-    // Line 2 begins at byte 20; the blank after `\draw` is passed over.
-    let source = b"\\begin{tikzpicture}\n\\draw (0,0) -- (1,0);\n\\end{tikzpicture}\n";
-    assert_eq!(rt; source.len(), 60);
-    let Ok(lexed) = lex(rt.alloc(), source) else {
-        return Err("no tokens".into());
+    let fault = Fault {
+        code: Code::NotUtf8,
+        at: 1,
     };
-    let toks = lexed.toks.as_slice();
-    let word = |n, at| Tok {
-        kind: Kind::Word(n),
-        at,
-    };
-    assert_eq!(rt; toks.len(), 47);
-    assert_eq!(rt; toks[0], word(0, 0));
-    assert_eq!(rt;
-        toks[1],
-        Tok {
-            kind: Kind::Open,
-            at: 6
-        }
-    );
-    assert_eq!(rt;
-        toks[13],
-        Tok {
-            kind: Kind::Close,
-            at: 18
-        }
-    );
-    assert_eq!(rt;
-        toks[14],
-        Tok {
-            kind: Kind::Space,
-            at: 19
-        }
-    );
-    assert_eq!(rt; toks[15], word(1, 20));
-    assert_eq!(rt;
-        toks[16],
-        Tok {
-            kind: Kind::Char('('),
-            at: 26
-        }
-    );
-    assert_eq!(rt; toks[32], word(2, 42));
-    assert_eq!(rt;
-        toks[46],
-        Tok {
-            kind: Kind::Space,
-            at: 59
-        }
-    );
-    assert_eq!(rt; lexed.names.word(2), Some("end"));
-    assert_eq!(rt; lexed.names.word(3), None);
+    assert!(rt; matches!(lex(rt.alloc(), b"a\xff"), Err(Refusal::Fault(found)) if found == fault));
     Ok(())
 }
 
-/// The fault of a source.
-fn fault_of(rt: &impl Abort, alloc: Global, source: &[u8]) -> Option<Fault> {
-    assert!(rt; source.len() < 1000);
-    match lex(alloc, source) {
-        Err(Refusal::Fault(fault)) => Some(fault),
-        _ => None,
-    }
-}
-
 #[test]
-fn the_first_fault_is_given(rt: HostRuntime) {
-    for (source, code, at) in &FAULTS {
-        let fault = Fault {
-            code: *code,
-            at: *at,
-        };
-        assert_eq!(rt; fault_of(&rt, rt.alloc(), source), Some(fault));
-    }
-}
-
-/// So many `{`, and then so many `}`.
-fn braces(alloc: Global, opened: usize, closed: usize) -> Result<Vec<u8>, Fail> {
-    let mut source = Vec::new(alloc);
-    for _ in 0..opened {
-        source.push(b'{')?;
-    }
-    for _ in 0..closed {
-        source.push(b'}')?;
-    }
-    Ok(source)
-}
-
-#[test]
-fn braces_are_open_256_deep_at_most(rt: HostRuntime) -> Result<(), Fail> {
-    let fault = |code, at| Some(Fault { code, at });
-    // How many are opened and closed, and the fault.
-    let rows = [
-        (255, 255, None),
-        (256, 256, None),
-        (256, 255, fault(Code::Brace, 0)),
-        (256, 0, fault(Code::Brace, 255)),
-        (256, 257, fault(Code::Brace, 512)),
-        (257, 257, fault(Code::TooDeep, 256)),
-        (300, 0, fault(Code::TooDeep, 256)),
-    ];
-    for (opened, closed, fault) in &rows {
-        let source = braces(rt.alloc(), *opened, *closed)?;
-        assert_eq!(rt; fault_of(&rt, rt.alloc(), &source), *fault);
-    }
-    // 256 deep twice, one after the other.
-    let mut source = braces(rt.alloc(), 256, 1)?;
-    source.push(b'{')?;
-    assert_eq!(rt; fault_of(&rt, rt.alloc(), &source), fault(Code::Brace, 257));
-    source.push(b'{')?;
-    assert_eq!(rt;
-        fault_of(&rt, rt.alloc(), &source),
-        fault(Code::TooDeep, 258)
-    );
-    // A `}` too many and a `{` too deep, in reading order.
-    let deep = braces(rt.alloc(), 257, 600)?;
-    assert_eq!(rt; fault_of(&rt, rt.alloc(), &deep), fault(Code::TooDeep, 256));
-    Ok(())
-}
-
-/// The place right after a text.
-fn place_after(rt: &impl Abort, before: &str) -> (u32, u32) {
-    assert!(rt; before.len() < 100);
-    place(before.as_bytes(), before.len() as u32)
-}
-
-#[test]
-fn places_have_lines_and_columns(rt: HostRuntime) {
-    for (before, line, column) in &PLACES {
-        assert_eq!(rt; place_after(&rt, before), (*line, *column), "{before}");
-    }
-    // What stands after the place doesn't count.
-    assert_eq!(rt; place(b"a\nbc\n\xff", 3), (2, 2));
-}
-
-#[test]
-fn a_word_has_one_number(rt: HostRuntime) -> Result<(), Fail> {
+fn words_have_numbers_and_places_lines(rt: HostRuntime) -> Result<(), Fail> {
     let mut names = Names::new(rt.alloc());
     assert_eq!(rt; names.add("draw")?, 0);
     assert_eq!(rt; names.add("fill")?, 1);
     assert_eq!(rt; names.add("draw")?, 0);
-    assert_eq!(rt; names.word(0), Some("draw"));
     assert_eq!(rt; names.word(1), Some("fill"));
     assert_eq!(rt; names.word(2), None);
+    // `é` has two bytes; what stands after the place doesn't count.
+    assert_eq!(rt; place("é\nbc".as_bytes(), 4), (2, 2));
+    assert_eq!(rt; place(b"a\r\n\xff", 2), (1, 3));
+    Ok(())
+}
+
+#[test]
+fn searches_end_outside_braces(rt: HostRuntime) -> Result<(), Fail> {
+    for (text, sought, before) in &SEARCHES {
+        let toks = toks(rt.alloc(), text)?;
+        let found = first_outside(toks.as_slice(), *sought);
+        assert_eq!(rt; found.map(|(front, _)| front.len()), *before, "{text}");
+        if let Some((front, rest)) = found {
+            assert_eq!(rt; rest.len(), toks.len() - front.len(), "{text}");
+        }
+    }
+    let spaced = toks(rt.alloc(), "  a b ")?;
+    assert_eq!(rt; after_spaces(spaced.as_slice()).len(), 4);
+    assert_eq!(rt; trimmed(spaced.as_slice()).len(), 3);
+    assert!(rt; begins_char(trimmed(spaced.as_slice()), 'a'));
+    assert_eq!(rt; depth_after(0, Kind::Open), 1);
+    assert_eq!(rt; depth_after(0, Kind::Close), 0);
+    assert!(rt; closes_nothing(0, Kind::Close) && !closes_nothing(1, Kind::Close));
     Ok(())
 }

@@ -1,5 +1,5 @@
 use Rattle.std.proofs.Common.{◌∙◌}
-use Rattle.tk_expr.specs.Runs.{is_letter_tok}
+use Rattle.tk_expr.specs.Letters.{is_letter_tok}
 use Rattle.tk_expr.proofs.Prefixes.{front_len}
 use Rattle.tk_expr.proofs.pieces.letters_len.Goals as goal
 

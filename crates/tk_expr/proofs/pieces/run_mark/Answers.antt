@@ -1,6 +1,6 @@
 use Rattle.std.proofs.Common.{map, sym}
 use Rattle.std.proofs.lemmas.List.{length-map}
-use Rattle.tk_expr.specs.Runs.{letter_of}
+use Rattle.tk_expr.specs.Letters.{letter_of}
 use Rattle.tk_expr.proofs.Letters.{long_word}
 use Rattle.tk_expr.proofs.pieces.run_mark.Goals as goal
 

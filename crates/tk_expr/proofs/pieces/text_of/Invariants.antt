@@ -1,5 +1,5 @@
 use Rattle.std.proofs.Common.{◌≡◌, map, take}
-use Rattle.tk_expr.specs.Runs.{letter_of}
+use Rattle.tk_expr.specs.Letters.{letter_of}
 use Rattle.tk_expr.proofs.pieces.text_of.Given as goal
 
 abbrev pub invariant-loop-tok : goal.invariant-loop-tok
