@@ -20,7 +20,9 @@ module _ {X : Type 0} where
   get_is es q = get-from_entries nat_cmp_total es q ∙ find_is q es
 
   -- entries that differ at one key alone are the map with that key set
-  pub insert_is : (es fs : List (ℕ × X)) (k : ℕ) (v : X) → ((q : ℕ) → lookup (eqb q) fs ≡ cond (eqb k q) (Some v) (lookup (eqb q) es)) → map.from_entries {R = nat_cmp} fs ≡ map.insert (map.from_entries es) k v
+  pub insert_is : (es fs : List (ℕ × X)) (k : ℕ) (v : X)
+      → ((q : ℕ) → lookup (eqb q) fs ≡ cond (eqb k q) (Some v) (lookup (eqb q) es))
+      → map.from_entries {R = nat_cmp} fs ≡ map.insert (map.from_entries es) k v
   insert_is es fs k v h = same_map nat_cmp_total nat_cmp-IsAntisymmetric _ _ (λ q.
       get_is fs q ∙ h q ∙ ap (cond (eqb k q) (Some v)) (sym (get_is es q)) ∙ ap (λ (b : Bool). cond b (Some v) (map.get (map.from_entries {R = nat_cmp} es) q)) (turned k q)
       ∙ sym (get-insert nat_cmp_total (map.from_entries es) k v q))

@@ -9,7 +9,7 @@ use Rattle.std.specs.FinMap as map
 use Rattle.tk_store.specs.declared.Macro.{Macro}
 use Rattle.tk_store.specs.declared.tables.Saved.{Saved}
 use Rattle.tk_store.specs.declared.tables.Saved.TheVariants.{Macro as Replaced, NoMacro}
-use Rattle.tk_store.specs.Levels.{Level, Levels, opened, SetsMacro}
+use Rattle.tk_store.specs.Levels.{Level, opened, SetsMacro}
 use Rattle.tk_store.specs.Undo.{Entries, macros_of, before, before_all, made_since, made_until, settings_at, level_of, outer_of, levels_of, AreMarks}
 use Rattle.std.proofs.lemmas.List.{length-drop, append-nil}
 use Rattle.indexmap.specs.IndexMap.{insert_entry, set_value_at}
@@ -74,7 +74,8 @@ marks_more n [] marked = tt
 marks_more n (mark ∷ marks) marked = (omega (arith, marked.0), marked.1)
 
 -- where what a setting replaced undoes it, only the last level is another
-module _ (saved all : List Saved) (marks : List ℕ) (old new : Entries) (s : Saved) (are : all ≡ s ∷ saved) (marked : AreMarks (length saved) marks) where
+module _ (saved all : List Saved) (marks : List ℕ) (old new : Entries) (s : Saved) (are : all ≡ s ∷ saved)
+    (marked : AreMarks (length saved) marks) where
   pub levels_set : before s new ≡ old
       → levels_of all marks new ≡ record (levels_of saved marks old) { top = level_of new (settings_at (length all) marks) }
   levels_set back i = record {
@@ -96,7 +97,8 @@ pub set_at_level : (saved all : List Saved) (marks : List ℕ) (old new : Entrie
     → AreMarks (length saved) marks
     → SetsMacro (levels_of saved marks old) (levels_of all marks new) word value
 set_at_level saved all marks old new s word value are back is marked =
-    let count : settings_at (length all) marks ≡ settings_at (length saved) marks + 1 = one_setting_more saved all marks old new s are marked in
+    let count : settings_at (length all) marks ≡ settings_at (length saved) marks + 1 =
+    one_setting_more saved all marks old new s are marked in
     record {
       levels = levels_set saved all marks old new s are marked back
           ∙ (λ i. record { outer = outer_of saved marks old; top = record { macros = is i; settings = settings_at (length all) marks } });
@@ -115,7 +117,8 @@ set_at_bottom saved all marks old new word value are none is =
     ∙ outer_empty all new
     ∙ sym (outer_empty saved old)
     ∙ ap (λ (l : List ℕ). outer_of saved l old) (sym none) in
-    let count : settings_at (length all) marks ≡ settings_at (length saved) marks = ap (λ (l : List Saved). settings_at (length l) marks) are in
+    let count : settings_at (length all) marks ≡ settings_at (length saved) marks =
+    ap (λ (l : List Saved). settings_at (length l) marks) are in
     record {
       levels = λ i. record { outer = outer i; top = record { macros = is i; settings = settings_at (length all) marks } };
       settings = (omega (arith, count), omega (arith, count));
@@ -188,11 +191,13 @@ module _ (saved less : List Saved) (s : Saved) (mark : ℕ) (are : saved ≡ s �
   more : suc (length less) - mark ≡ suc (length less - mark)
   more = omega (arith, enough)
 
-  pub one_undone : (old new : Entries) → new ≡ before s old → before_all (made_since mark less) new ≡ before_all (made_since mark saved) old
+  pub one_undone : (old new : Entries) → new ≡ before s old
+      → before_all (made_since mark less) new ≡ before_all (made_since mark saved) old
   unfolding before_all
   one_undone old new is =
       ap (before_all (made_since mark less)) is
-      ∙ sym (ap (λ (l : List Saved). before_all (made_since mark l) old) are ∙ ap (λ (n : ℕ). before_all (take n (s ∷ less)) old) more)
+      ∙ sym (ap (λ (l : List Saved). before_all (made_since mark l) old) are
+      ∙ ap (λ (n : ℕ). before_all (take n (s ∷ less)) old) more)
 
   pub one_dropped : made_until mark less ≡ made_until mark saved
   one_dropped = sym (ap (made_until mark) are ∙ ap (λ (n : ℕ). drop n (s ∷ less)) more)

@@ -36,7 +36,9 @@ bind_front (Ok x) ts f = refl
 bind_front (Err e) ts f = refl
 
 -- a token with nothing behind it
-alone : (args : ℕ) (k : Kind) (t : Tok) → (itself k t >>= λ first. Ok (first ∷ [])) ≡ ((if is_param k then misfit t.at else (itself k t >>= λ first. Ok (front first []))) >>= after_front args)
+alone : (args : ℕ) (k : Kind) (t : Tok)
+    → (itself k t >>= λ first. Ok (first ∷ []))
+    ≡ ((if is_param k then misfit t.at else (itself k t >>= λ first. Ok (front first []))) >>= after_front args)
 unfolding body_of
 alone args Param t = refl
 alone args (Arg n) t = refl
@@ -49,7 +51,8 @@ alone args Space t = refl
 
 -- a token with another behind it, which may belong to it
 paired : (args : ℕ) (b : Bool) (m n : Answer Tok) (us ts : List Tok) →
-    (if b then (m >>= λ first. body_of args us >>= λ more. Ok (first ∷ more)) else (n >>= λ first. body_of args ts >>= λ more. Ok (first ∷ more)))
+    (if b then (m >>= λ first. body_of args us >>= λ more. Ok (first ∷ more))
+    else (n >>= λ first. body_of args ts >>= λ more. Ok (first ∷ more)))
     ≡ ((if b then (m >>= λ first. Ok (front first us)) else (n >>= λ first. Ok (front first ts))) >>= after_front args)
 paired args true m n us ts = sym (bind_front m us (after_front args))
 paired args false m n us ts = sym (bind_front n ts (after_front args))

@@ -1,7 +1,6 @@
 -- How a store keeps its levels: the entries of the last one, and what each setting replaced, the newest first. So after
 -- `\def\a{x}`, a level that opens and `\def\a{y}`, the entry of `\a` has `y`, and what was replaced is `x` at its place.
-use Rattle.std.specs.Prelude.{◌≡◌, ℕ, ◌-◌, ◌≤◌, List, [], ◌∷◌, length, take, drop}
-use Rattle.std.specs.Ordering.{nat_cmp}
+use Rattle.std.specs.Prelude.{ℕ, ◌-◌, ◌≤◌, List, [], ◌∷◌, length, take, drop}
 use Rattle.std.specs.FinMap as map
 use Rattle.indexmap.specs.IndexMap.{set_value_at}
 use Rattle.tk_store.specs.declared.Macro.{Macro}

@@ -1,4 +1,5 @@
-//! Macros by their words, in levels: what is set at a level ends with it.
+//! Macros by their words, in levels: what is set at a level ends with it. And the bodies of macros, as they are written and
+//! as they are kept.
 #![tactic(auto)]
 
 mod body;
@@ -9,7 +10,6 @@ mod tables;
 mod tests;
 
 pub use body::{Body, digit_of};
-use std::alloc::AllocError;
 pub use steps::Steps;
 pub use store::Store;
 
@@ -20,17 +20,4 @@ pub struct Macro {
     pub args: u8,
     /// The tokens. `Arg(n)` in it is the place of the argument n, which is from 1 to `args`.
     pub body: Body,
-}
-
-impl Clone for Macro {
-    ghost use Rattle.std.specs.Prelude.{◌≡◌};
-
-    ghost is_clone = { λ value copy. copy ≡ value };
-
-    fn clone(&self) -> Result<Macro, AllocError> {
-        Ok(Macro {
-            args: self.args,
-            body: self.body.copy()?,
-        })
-    }
 }

@@ -16,7 +16,9 @@ use std::alloc::{AllocError, Global};
 use std::marker::{Brand, Model};
 use std::sync::ledger::{Blank, Ledger};
 
-/// The macros of all open levels, of which there are at most 128, and none at first. Each macro is proper.
+/// The macros of all open levels, of which there are at most 128, and none at first. After `\def\a{x}{\def\a{y}` the word
+/// `\a` stands for `y`, and once the `}` is read for `x` again. Each macro is proper: it has at most nine arguments, and no
+/// place in its body of one that it hasn't.
 #[derive(Drop)]
 pub struct Store {
     /// What holds at the current level.
@@ -89,7 +91,8 @@ impl Store {
         self.marks.push(self.saved.len());
     }
 
-    /// Closes the current level: what was set at it ends. This takes no memory. A step is one setting that is undone.
+    /// Closes the current level: what was set at it ends. This takes no memory, and looks only at what was set: a step is one
+    /// setting that is undone.
     pub fn close<L: Ledger>(&mut self, steps: &mut Steps<L>)
         requires { 0 < length self.old.outer }
         ensures outer { self.old.outer ≡ self.new.top ∷ self.new.outer }

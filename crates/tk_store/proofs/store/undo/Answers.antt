@@ -10,14 +10,18 @@ use Rattle.tk_store.proofs.store.undo.Goals.{After-loop-saved}
 
 pub loop-saved-preserved-in-Some : goal.loop-saved-preserved-in-Some
 loop-saved-preserved-in-Some g c =
-    let are : reverse c.loop-saved.saved.items ≡ c.in-Some.newest ∷ reverse c.pop.new.self.items = ap reverse c.in-Some.ensures.items ∙ reverse-append c.pop.new.self.items (c.in-Some.newest ∷ []) in
+    let are : reverse c.loop-saved.saved.items ≡ c.in-Some.newest ∷ reverse c.pop.new.self.items =
+    ap reverse c.in-Some.ensures.items ∙ reverse-append c.pop.new.self.items (c.in-Some.newest ∷ []) in
     let count : length (reverse c.loop-saved.saved.items) ≡ length (reverse c.pop.new.self.items) + 1 = omega (arith, ap length are) in
     let enough : c.args.mark ≤ length (reverse c.pop.new.self.items) =
     omega (arith, count, c.loop-saved-test.true, c.len.ensures, c.loop-saved.saved.ok.0, length-reverse c.loop-saved.saved.items) in
     record {
       enough = enough;
-      back = one_undone (reverse c.loop-saved.saved.items) (reverse c.pop.new.self.items) c.in-Some.newest c.args.mark are enough c.loop-saved.tables c.put_back.new.self c.put_back.ensures.entries ∙ c.loop-saved.invariant.back;
-      left = one_dropped (reverse c.loop-saved.saved.items) (reverse c.pop.new.self.items) c.in-Some.newest c.args.mark are enough ∙ c.loop-saved.invariant.left;
+      back = one_undone (reverse c.loop-saved.saved.items) (reverse c.pop.new.self.items) c.in-Some.newest c.args.mark are enough
+          c.loop-saved.tables c.put_back.new.self c.put_back.ensures.entries
+          ∙ c.loop-saved.invariant.back;
+      left = one_dropped (reverse c.loop-saved.saved.items) (reverse c.pop.new.self.items) c.in-Some.newest c.args.mark are enough
+          ∙ c.loop-saved.invariant.left;
       proper = (subst (AllByRecursion IsProperSaved) are c.loop-saved.invariant.proper).1;
       cost = omega (arith, count, c.loop-saved.invariant.cost, c.put_back.ensures.cost);
     }
@@ -26,7 +30,9 @@ few : (g : Over) (c : After-loop-saved g) → length (reverse c.loop-saved.saved
 few g c = omega (arith, c.loop-saved-test.false, c.len.ensures, c.loop-saved.saved.ok.0, length-reverse c.loop-saved.saved.items)
 
 pub returns-clause-tables : goal.returns-clause-tables
-returns-clause-tables g c = sym (none_undone (reverse c.loop-saved.saved.items) c.args.mark (few g c) c.loop-saved.tables) ∙ c.loop-saved.invariant.back
+returns-clause-tables g c =
+    sym (none_undone (reverse c.loop-saved.saved.items) c.args.mark (few g c) c.loop-saved.tables)
+    ∙ c.loop-saved.invariant.back
 
 pub returns-clause-saved : goal.returns-clause-saved
 returns-clause-saved g c = sym (none_dropped (reverse c.loop-saved.saved.items) c.args.mark (few g c)) ∙ c.loop-saved.invariant.left

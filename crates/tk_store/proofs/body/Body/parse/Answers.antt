@@ -10,11 +10,14 @@ use Rattle.tk_store.proofs.body.Body.parse.Goals as goal
 pub returns-in_err-tok-clause-gives : goal.returns-in_err-tok-clause-gives
 returns-in_err-tok-clause-gives c =
     let p = err_from_is_err_and c.from_residual-in_err-tok.result c.from_residual-in_err-tok.ensures.1 in
-    rw (p.1, p.2) (fails c.args.args c.loop-first.toks.items c.loop-first.rest.now _ c.loop-first.invariant.told c.in-Some.first.now c.in-Some.tail.now (search rules) c.in_err-tok.field-0.0 c.in_err-tok.ensures.gives)
+    rw (p.1, p.2)
+    (fails c.args.args c.loop-first.toks.items c.loop-first.rest.now _ c.loop-first.invariant.told
+    c.in-Some.first.now c.in-Some.tail.now (search rules) c.in_err-tok.field-0.0 c.in_err-tok.ensures.gives)
 
 pub loop-first-preserved : goal.loop-first-preserved
 loop-first-preserved c = record {
-  told = goes c.args.args c.loop-first.toks.items c.loop-first.rest.now _ c.loop-first.invariant.told c.in-Some.first.now c.in-Some.tail.now (search rules) c.in_ok-tok.tok c.in_ok-tok.behind.now c.push.new.self.items c.in_ok-tok.ensures.gives c.in_ok-push.ensures.items;
+  told = goes c.args.args c.loop-first.toks.items c.loop-first.rest.now _ c.loop-first.invariant.told
+      c.in-Some.first.now c.in-Some.tail.now (search rules) c.in_ok-tok.tok c.in_ok-tok.behind.now c.push.new.self.items c.in_ok-tok.ensures.gives c.in_ok-push.ensures.items;
   places = grind (arith, common_steps);
 }
 

@@ -23,15 +23,21 @@ returns-clause-macros c =
 
 pub returns-clause-undo : goal.returns-clause-undo
 returns-clause-undo c = elim c.match-old.branch [
-  | in-Some w ↦ undoes_replaced c.self.inside.macros.entries c.insert_full.new.self.entries c.args.name c.in_ok-place.place c.args.value w.in-Some.old c.match-old.result
-      w.result-is c.in_ok-place.ensures.entries c.in_ok-place.ensures.index (sym c.in_ok-place.ensures.old ∙ w.in-Some.is) ∙ c.self.view_is
-  | in-None w ↦ undoes_added c.self.inside.macros.entries c.insert_full.new.self.entries (c.args.name, c.args.value) c.match-old.result
-      w.result-is (c.in_ok-place.ensures.entries ∙ insert_entry-new eqb c.self.inside.macros c.args.name c.args.value (sym c.in_ok-place.ensures.old ∙ w.in-None.is)) ∙ c.self.view_is
+  | in-Some w ↦ undoes_replaced c.self.inside.macros.entries c.insert_full.new.self.entries c.args.name c.in_ok-place.place
+      c.args.value w.in-Some.old c.match-old.result w.result-is
+      c.in_ok-place.ensures.entries c.in_ok-place.ensures.index (sym c.in_ok-place.ensures.old ∙ w.in-Some.is)
+      ∙ c.self.view_is
+  | in-None w ↦ undoes_added c.self.inside.macros.entries c.insert_full.new.self.entries (c.args.name, c.args.value)
+      c.match-old.result w.result-is
+      (c.in_ok-place.ensures.entries
+      ∙ insert_entry-new eqb c.self.inside.macros c.args.name c.args.value (sym c.in_ok-place.ensures.old ∙ w.in-None.is))
+      ∙ c.self.view_is
 ]
 
 pub returns-clause-proper : goal.returns-clause-proper
 returns-clause-proper c = elim c.match-old.branch [
-  | in-Some w ↦ subst IsProperSaved (sym w.result-is) (subst (λ o. IfSome o IsProperMacro) (sym c.in_ok-place.ensures.old ∙ w.in-Some.is)
+  | in-Some w ↦ subst IsProperSaved (sym w.result-is)
+      (subst (λ o. IfSome o IsProperMacro) (sym c.in_ok-place.ensures.old ∙ w.in-Some.is)
       (each_found IsProperMacro c.self.inside.macros.entries c.args.name c.self.invariant))
   | in-None w ↦ subst IsProperSaved (sym w.result-is) tt
 ]
