@@ -7,17 +7,17 @@ use std::test::Fail;
 use tk_store::{Body, Macro, Store};
 use tk_token::{Code, Fault, Kind, Refusal, Tok};
 
-/// The macros of the tests: a word, how many arguments it has, and its body, in which a digit is the place of an argument.
+/// The macros of the tests: a word, how many arguments it has, and its body.
 const MACROS: [(char, u8, &str); 7] = [
     // Its text is 2 tokens longer than its argument.
-    ('F', 1, "(1)"),
+    ('F', 1, "(#1)"),
     ('G', 0, "Fx"),
     ('H', 0, ""),
-    ('E', 2, "2-1"),
+    ('E', 2, "#2-#1"),
     // It needs an argument that stands behind its call.
     ('K', 0, "F"),
     // It doubles its argument, and never ends.
-    ('D', 1, "D{11}"),
+    ('D', 1, "D{#1#1}"),
     // It calls itself, and never ends.
     ('L', 0, "L"),
 ];
@@ -170,8 +170,7 @@ fn kind_of(character: char) -> Kind {
         '{' => Kind::Open,
         '}' => Kind::Close,
         '_' => Kind::Space,
-        '1' => Kind::Arg(1),
-        '2' => Kind::Arg(2),
+        '#' => Kind::Param,
         'A'..='Z' => Kind::Word(character as u32),
         _ => Kind::Char(character),
     }
@@ -267,8 +266,13 @@ fn met(alloc: Global, given: Result<(), Fault>) -> Result<String, Fail> {
 fn store(alloc: Global) -> Result<Store, Fail> {
     let mut store = Store::new(alloc)?;
     for (word, args, body) in &MACROS {
-        let body = Body::from_vec(toks(alloc, body, 100)?)?;
-        store.set_macro(*word as u32, Macro { args: *args, body })?;
+        let args = *args;
+        let Ok(body) = Body::parse(alloc, args, &toks(alloc, body, 100)?) else {
+            return Err("no body".into());
+        };
+        if args <= 9 {
+            store.set_macro(*word as u32, Macro { args, body })?;
+        }
     }
     Ok(store)
 }
