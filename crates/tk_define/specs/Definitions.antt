@@ -60,7 +60,10 @@ edef budget macros s = do
   inside ← after_token MacroSyntax is_open name.list
   written ← body_in 0 inside
   text ← full budget macros (stream s.units (unread written.value s.list.end))
-  Ok (record { definition = stands_for name.value 0 text.list.rest; stream = stream text.units written.list })
+  Ok (record {
+    definition = stands_for name.value 0 text.list.rest;
+    stream = stream text.units written.list;
+  })
 
 -- the definition behind its command
 abbrev pub defined : Command → ℕ → Macros → Stream → Answer Defined

@@ -43,7 +43,9 @@ parameters count (suc more) list = do
 unfoldable pub name_start : Unread → Answer (Read Tok)
 name_start list = do
   first ← next_token MacroSyntax (past_spaces list)
-  if is_char star first.value.kind then next_token MacroSyntax (past_spaces first.list) else Ok first
+  if is_char star first.value.kind
+      then next_token MacroSyntax (past_spaces first.list)
+      else Ok first
 
 -- the name in braces, whose `{` was read
 unfoldable pub braced_name : Unread → Answer (Read ℕ)
@@ -75,7 +77,8 @@ bracketed_count list = do
 -- the number of arguments that begins with a token of that kind, at that place; none is 0
 abbrev pub count_from : Kind → ℕ → Unread → Answer (Read ℕ)
 count_from Open at list = Ok (read 0 list)
-count_from (Char c) at list = if c == left_bracket then bracketed_count list else fault MacroSyntax at
+count_from (Char c) at list =
+    if c == left_bracket then bracketed_count list else fault MacroSyntax at
 count_from _ at list = fault MacroSyntax at
 
 -- the number of arguments, up to the `{` of the body

@@ -26,7 +26,9 @@ pub fn read_definition(
     store: &Store,
     units: &mut Units,
 ) -> Result<Definition, Refusal>
-    ensures gives { Gives (λ definition. record { definition = definition; stream = stream units.new.used input.new }) result
+    ensures gives { Gives
+        (λ definition. record { definition = definition; stream = stream units.new.used input.new })
+        result
         (defined command units.old.budget store.now.top.macros (stream units.old.used input.old)) }
     ensures end { OnOk result (input.new.end ≡ input.old.end) }
     ensures budget { units.new.budget ≡ units.old.budget }
@@ -82,7 +84,9 @@ fn edef(
     store: &Store,
     units: &mut Units,
 ) -> Result<Definition, Refusal>
-    ensures gives { Gives (λ definition. record { definition = definition; stream = stream units.new.used input.new }) result
+    ensures gives { Gives
+        (λ definition. record { definition = definition; stream = stream units.new.used input.new })
+        result
         (edef units.old.budget store.now.top.macros (stream units.old.used input.old)) }
     ensures end { OnOk result (input.new.end ≡ input.old.end) }
     ensures budget { units.new.budget ≡ units.old.budget }

@@ -119,7 +119,8 @@ fn bracketed_count(input: &mut Input) -> Result<u8, Fault>
 
 /// Takes the `{` of the body, with the Spaces before it.
 fn body_open(input: &mut Input) -> Result<(), Fault>
-    ensures gives { Tells (λ _. input.new) result (after_token MacroSyntax is_open (past_spaces input.old)) }
+    ensures gives { Tells (λ _. input.new) result
+        (after_token MacroSyntax is_open (past_spaces input.old)) }
     ensures end { OnOk result (input.new.end ≡ input.old.end) }
     ensures shorter { OnOk result (length input.new.rest < length input.old.rest) }
 {

@@ -28,7 +28,8 @@ pub(crate) fn misfit(at: u32) -> Fault
 /// Takes the next token, which has to be a control word.
 #[tactic(auto, unfolding(tk_expand::specs::Reading::token_value))]
 pub(crate) fn word(input: &mut Input) -> Result<u32, Fault>
-    ensures gives { Tells (λ word. read word input.new) result (token_value MacroSyntax word_of input.old) }
+    ensures gives { Tells (λ word. read word input.new) result
+        (token_value MacroSyntax word_of input.old) }
     ensures end { OnOk result (input.new.end ≡ input.old.end) }
     ensures shorter { OnOk result (length input.new.rest < length input.old.rest) }
 {
@@ -42,7 +43,8 @@ pub(crate) fn word(input: &mut Input) -> Result<u32, Fault>
 /// Takes the next token, which has to be a digit.
 #[tactic(auto, unfolding(tk_expand::specs::Reading::token_value))]
 pub(crate) fn digit(input: &mut Input) -> Result<u8, Fault>
-    ensures gives { Tells (λ digit. read digit input.new) result (token_value MacroSyntax digit_of input.old) }
+    ensures gives { Tells (λ digit. read digit input.new) result
+        (token_value MacroSyntax digit_of input.old) }
     ensures end { OnOk result (input.new.end ≡ input.old.end) }
     ensures shorter { OnOk result (length input.new.rest < length input.old.rest) }
     ensures few { IfOk result (λ digit. digit ≤ 9) }

@@ -78,12 +78,14 @@ StandWithin len ts = AllByRecursion (λ (t : Tok). t.at ≤ len) ts
 
 module _ (budget : ℕ) (macros : Macros) where
   -- a token in front, with those behind it, stays where it calls nothing, else its call is replaced
-  abbrev pub front_token : (Stream → Answer Stream) → Stream → Tok → List Tok → Option Macro → Answer Stream
+  abbrev pub front_token : (Stream → Answer Stream) → Stream → Tok → List Tok → Option Macro
+      → Answer Stream
   front_token front s t ts None = Ok s
   front_token front s t ts (Some called) = do
     next ← replaced budget called t.at (with_rest s ts)
     front next
 
+  -- the same for the tokens of the stream, if there are any
   abbrev pub front_list : (Stream → Answer Stream) → Stream → List Tok → Answer Stream
   front_list front s [] = Ok s
   front_list front s (t ∷ ts) = front_token front s t ts (called_by macros t.kind)

@@ -43,7 +43,8 @@ impl Input {
         units: &mut Units,
     ) -> Result<(), Refusal>
         ensures gives { Gives (λ _. stream units.new.used self.new) result
-            (after_next units.old.budget store.now.top.macros code (is_char wanted) (stream units.old.used self.old)) }
+            (after_next units.old.budget store.now.top.macros code (is_char wanted)
+                (stream units.old.used self.old)) }
         ensures end { OnOk result (self.new.end ≡ self.old.end) }
         ensures budget { units.new.budget ≡ units.old.budget }
         ensures used { OnOk result (units.old.used ≤ units.new.used) }
@@ -63,7 +64,8 @@ impl Input {
         units: &mut Units,
     ) -> Result<(), Refusal>
         ensures gives { Gives (λ _. stream units.new.used self.new) result
-            (after_letters units.old.budget store.now.top.macros code text.now (stream units.old.used self.old)) }
+            (after_letters units.old.budget store.now.top.macros code text.now
+                (stream units.old.used self.old)) }
         ensures end { OnOk result (self.new.end ≡ self.old.end) }
         ensures budget { units.new.budget ≡ units.old.budget }
         ensures used { OnOk result (units.old.used ≤ units.new.used) }

@@ -124,11 +124,13 @@ impl Input {
     /// ends before it, or a `}` comes before it that closes none of these tokens; then nothing is taken.
     pub fn until(&mut self, stop: char) -> Result<Option<Vec<Tok>>, AllocError>
         ensures gives { IfOk result
-            (λ found. option_map (λ front. cut front.items self.new.rest) found ≡ before_char stop self.old.rest) }
+            (λ found. option_map (λ front. cut front.items self.new.rest) found
+                ≡ before_char stop self.old.rest) }
         ensures none { IfOk result (λ found. IfNone found (self.new ≡ self.old)) }
         ensures end { OnOk result (self.new.end ≡ self.old.end) }
         ensures shorter { IfOk result
-            (λ found. IfSome found (λ front. length front.items + length self.new.rest < length self.old.rest)) }
+            (λ found. IfSome found (λ front.
+                length front.items + length self.new.rest < length self.old.rest)) }
     {
         self.before(Stop::Char(stop))
     }
@@ -137,11 +139,13 @@ impl Input {
     /// that `}`; then nothing is taken.
     pub fn group(&mut self) -> Result<Option<Vec<Tok>>, AllocError>
         ensures gives { IfOk result
-            (λ found. option_map (λ front. cut front.items self.new.rest) found ≡ group_of self.old.rest) }
+            (λ found. option_map (λ front. cut front.items self.new.rest) found
+                ≡ group_of self.old.rest) }
         ensures none { IfOk result (λ found. IfNone found (self.new ≡ self.old)) }
         ensures end { OnOk result (self.new.end ≡ self.old.end) }
         ensures shorter { IfOk result
-            (λ found. IfSome found (λ front. length front.items + length self.new.rest < length self.old.rest)) }
+            (λ found. IfSome found (λ front.
+                length front.items + length self.new.rest < length self.old.rest)) }
     {
         self.before(Stop::Close)
     }
@@ -152,7 +156,8 @@ impl Input {
         ensures gives { Gives (λ text. cut text.items self.new.rest) result
             (or_fault (argument_of self.old.rest) MacroArg at) }
         ensures end { OnOk result (self.new.end ≡ self.old.end) }
-        ensures shorter { IfOk result (λ text. length text.items + length self.new.rest ≤ length self.old.rest) }
+        ensures shorter { IfOk result
+            (λ text. length text.items + length self.new.rest ≤ length self.old.rest) }
     {
         let missing = Fault {
             code: Code::MacroArg,
@@ -176,11 +181,13 @@ impl Input {
     /// in the list that is read first is found without a walk through the stack.
     fn before(&mut self, stop: Stop) -> Result<Option<Vec<Tok>>, AllocError>
         ensures gives { IfOk result
-            (λ found. option_map (λ front. cut front.items self.new.rest) found ≡ before_stop stop self.old.rest) }
+            (λ found. option_map (λ front. cut front.items self.new.rest) found
+                ≡ before_stop stop self.old.rest) }
         ensures none { IfOk result (λ found. IfNone found (self.new ≡ self.old)) }
         ensures end { OnOk result (self.new.end ≡ self.old.end) }
         ensures shorter { IfOk result
-            (λ found. IfSome found (λ front. length front.items + length self.new.rest < length self.old.rest)) }
+            (λ found. IfSome found (λ front.
+                length front.items + length self.new.rest < length self.old.rest)) }
     {
         if let Some(front) = self.before_in_first(stop)? {
             return Ok(Some(front));
@@ -196,7 +203,8 @@ impl Input {
     /// The same, where the stop is in the list that is read first; else nothing is taken.
     fn before_in_first(&mut self, stop: Stop) -> Result<Option<Vec<Tok>>, AllocError>
         ensures gives { IfOk result
-            (λ found. IfSome found (λ front. before_stop stop self.old.rest ≡ Some (cut front.items self.new.rest))) }
+            (λ found. IfSome found (λ front.
+                before_stop stop self.old.rest ≡ Some (cut front.items self.new.rest))) }
         ensures none { IfOk result (λ found. IfNone found (self.new ≡ self.old)) }
         ensures end { OnOk result (self.new.end ≡ self.old.end) }
     {
@@ -220,7 +228,8 @@ impl Input {
     fn before_by_one(&mut self, stop: Stop) -> Result<(Vec<Tok>, bool), AllocError>
         ensures gives { IfOk result (λ taken. before_stop stop self.old.rest
             ≡ (if taken.1 then Some (cut taken.0.items self.new.rest) else None)) }
-        ensures kept { IfOk result (λ taken. OnFalse taken.1 (taken.0.items ++ self.new.rest ≡ self.old.rest)) }
+        ensures kept { IfOk result
+            (λ taken. OnFalse taken.1 (taken.0.items ++ self.new.rest ≡ self.old.rest)) }
         ensures end { OnOk result (self.new.end ≡ self.old.end) }
     {
         let mut front = Vec::new(self.alloc);

@@ -7,17 +7,17 @@ use std::test::Fail;
 use tk_store::{Body, Macro, Store};
 use tk_token::{Code, Fault, Kind, Refusal, Tok};
 
-/// The macros of the tests: a word, how many arguments it has, and its body, in which a digit is the place of an argument.
+/// The macros of the tests: a word, how many arguments it has, and its body.
 const MACROS: [(char, u8, &str); 7] = [
     // Its text is 2 tokens longer than its argument.
-    ('F', 1, "(1)"),
+    ('F', 1, "(#1)"),
     ('G', 0, "Fx"),
     ('H', 0, ""),
-    ('E', 2, "2-1"),
+    ('E', 2, "#2-#1"),
     // It needs an argument that stands behind its call.
     ('K', 0, "F"),
     // It doubles its argument, and never ends.
-    ('D', 1, "D{11}"),
+    ('D', 1, "D{#1#1}"),
     // It calls itself, and never ends.
     ('L', 0, "L"),
 ];
@@ -71,98 +71,77 @@ const EXPANDED: [(&str, u64, u64, &str); 30] = [
     ("Dx", 20_000, 16_434, "Budget 100"),
 ];
 
-/// A call on a list that is being read.
-#[derive(Clone, Copy)]
-enum Call {
-    First,
-    Raw,
-    SkipSpaces,
-    Until(char),
-    Group,
-    Argument,
-    Token,
-    Char(char),
-    Open,
-    Close,
-    Text(&'static str),
-    Name(&'static str),
-    Next,
-    Solid,
-    NextChar(char),
-    Letters(&'static str),
-}
-
 /// A list, a call, what it gives, the units that it costs, and what it leaves. What stands before a `|` is a list that was
 /// put in front of the other. A fault stands at its token, or at 77, where the list runs out.
-const READ: [(&str, Call, &str, u64, &str); 66] = [
-    ("ab", Call::First, "a", 0, "ab"),
-    ("|ab", Call::First, "a", 0, "ab"),
-    ("", Call::First, "none", 0, ""),
-    ("a|b", Call::Raw, "a", 0, "b"),
-    ("F", Call::Raw, "F", 0, ""),
-    ("", Call::Raw, "none", 0, ""),
-    ("__|_a_", Call::SkipSpaces, "done", 0, "a_"),
-    ("a_", Call::SkipSpaces, "done", 0, "a_"),
-    ("_", Call::SkipSpaces, "done", 0, ""),
-    ("a,b", Call::Until(','), "a", 0, "b"),
-    (",b", Call::Until(','), "", 0, "b"),
-    ("a,", Call::Until(','), "a", 0, ""),
-    ("a,|b", Call::Until(','), "a", 0, "b"),
-    ("a|b,c", Call::Until(','), "ab", 0, "c"),
-    ("{a|,}b,c", Call::Until(','), "{a,}b", 0, "c"),
-    ("{a,b}_,c,d", Call::Until(','), "{a,b}_", 0, "c,d"),
-    ("{{a}b},{", Call::Until(','), "{{a}b}", 0, "{"),
+const READ: [(&str, &str, &str, u64, &str); 66] = [
+    ("ab", "first", "a", 0, "ab"),
+    ("|ab", "first", "a", 0, "ab"),
+    ("", "first", "none", 0, ""),
+    ("a|b", "raw", "a", 0, "b"),
+    ("F", "raw", "F", 0, ""),
+    ("", "raw", "none", 0, ""),
+    ("__|_a_", "skip spaces", "done", 0, "a_"),
+    ("a_", "skip spaces", "done", 0, "a_"),
+    ("_", "skip spaces", "done", 0, ""),
+    ("a,b", "until ,", "a", 0, "b"),
+    (",b", "until ,", "", 0, "b"),
+    ("a,", "until ,", "a", 0, ""),
+    ("a,|b", "until ,", "a", 0, "b"),
+    ("a|b,c", "until ,", "ab", 0, "c"),
+    ("{a|,}b,c", "until ,", "{a,}b", 0, "c"),
+    ("{a,b}_,c,d", "until ,", "{a,b}_", 0, "c,d"),
+    ("{{a}b},{", "until ,", "{{a}b}", 0, "{"),
     // Without the character outside braces nothing is taken.
-    ("", Call::Until(','), "none", 0, ""),
-    ("ab{,}", Call::Until(','), "none", 0, "ab{,}"),
-    ("a;|{b", Call::Until(','), "none", 0, "a;{b"),
+    ("", "until ,", "none", 0, ""),
+    ("ab{,}", "until ,", "none", 0, "ab{,}"),
+    ("a;|{b", "until ,", "none", 0, "a;{b"),
     // So it is where a `}` comes before it.
-    ("a}b,c", Call::Until(','), "none", 0, "a}b,c"),
-    ("a|b}c,", Call::Until(','), "none", 0, "ab}c,"),
-    ("a{b}}c", Call::Group, "a{b}", 0, "c"),
-    ("}c", Call::Group, "", 0, "c"),
-    ("a{|b}}c", Call::Group, "a{b}", 0, "c"),
-    ("a{b}c", Call::Group, "none", 0, "a{b}c"),
-    ("ab", Call::Argument, "a", 0, "b"),
-    ("__ab", Call::Argument, "a", 0, "b"),
-    ("_{a{b}}_c", Call::Argument, "a{b}", 0, "_c"),
-    ("_{|a}b", Call::Argument, "a", 0, "b"),
-    ("{}", Call::Argument, "", 0, ""),
-    ("Fx", Call::Argument, "F", 0, "x"),
-    ("", Call::Argument, "MacroArg 9", 0, ""),
-    ("_", Call::Argument, "MacroArg 9", 0, ""),
-    ("_}a", Call::Argument, "MacroArg 9", 0, "a"),
-    ("{a{}", Call::Argument, "MacroArg 9", 0, "a{}"),
-    ("Fx", Call::Token, "F", 0, "x"),
-    ("_a", Call::Token, "_", 0, "a"),
-    ("", Call::Token, "Unbuilt 77", 0, ""),
-    ("ab", Call::Char('a'), "done", 0, "b"),
-    ("ba", Call::Char('a'), "Unbuilt 0", 0, "a"),
-    ("_a", Call::Char('a'), "Unbuilt 0", 0, "a"),
-    ("", Call::Char('a'), "Unbuilt 77", 0, ""),
-    ("{a", Call::Open, "done", 0, "a"),
-    ("}a", Call::Open, "Unbuilt 0", 0, "a"),
-    ("}a", Call::Close, "done", 0, "a"),
-    ("{a", Call::Close, "Unbuilt 0", 0, "a"),
-    ("abc", Call::Text("ab"), "done", 0, "c"),
-    ("a_b", Call::Text("ab"), "Unbuilt 1", 0, "b"),
-    ("a", Call::Text("ab"), "Unbuilt 77", 0, ""),
-    ("a", Call::Text(""), "done", 0, "a"),
-    ("_{ab}c", Call::Name("ab"), "done", 0, "c"),
-    ("{_ab}", Call::Name("ab"), "Unbuilt 1", 0, "ab}"),
-    ("{abc}", Call::Name("ab"), "Unbuilt 3", 0, "}"),
-    ("Fxy", Call::Next, "(", 4, "x)y"),
-    ("H_a", Call::Next, "_", 1, "a"),
-    ("H", Call::Next, "none", 1, ""),
-    ("F|", Call::Next, "MacroArg 0", 0, ""),
-    ("H_|_Ha", Call::Solid, "a", 2, ""),
-    ("_H_", Call::Solid, "none", 1, ""),
-    ("_F", Call::Solid, "MacroArg 1", 0, ""),
-    ("Fx", Call::NextChar('('), "done", 4, "x)"),
-    ("_a", Call::NextChar('a'), "Unbuilt 0", 0, "a"),
-    ("H", Call::NextChar('a'), "Unbuilt 77", 1, ""),
-    ("aHb|c", Call::Letters("abc"), "done", 1, ""),
-    ("aFb", Call::Letters("a(c"), "Unbuilt 2", 4, ")"),
+    ("a}b,c", "until ,", "none", 0, "a}b,c"),
+    ("a|b}c,", "until ,", "none", 0, "ab}c,"),
+    ("a{b}}c", "group", "a{b}", 0, "c"),
+    ("}c", "group", "", 0, "c"),
+    ("a{|b}}c", "group", "a{b}", 0, "c"),
+    ("a{b}c", "group", "none", 0, "a{b}c"),
+    ("ab", "argument", "a", 0, "b"),
+    ("__ab", "argument", "a", 0, "b"),
+    ("_{a{b}}_c", "argument", "a{b}", 0, "_c"),
+    ("_{|a}b", "argument", "a", 0, "b"),
+    ("{}", "argument", "", 0, ""),
+    ("Fx", "argument", "F", 0, "x"),
+    ("", "argument", "MacroArg 9", 0, ""),
+    ("_", "argument", "MacroArg 9", 0, ""),
+    ("_}a", "argument", "MacroArg 9", 0, "a"),
+    ("{a{}", "argument", "MacroArg 9", 0, "a{}"),
+    ("Fx", "token", "F", 0, "x"),
+    ("_a", "token", "_", 0, "a"),
+    ("", "token", "Unbuilt 77", 0, ""),
+    ("ab", "char a", "done", 0, "b"),
+    ("ba", "char a", "Unbuilt 0", 0, "a"),
+    ("_a", "char a", "Unbuilt 0", 0, "a"),
+    ("", "char a", "Unbuilt 77", 0, ""),
+    ("{a", "open", "done", 0, "a"),
+    ("}a", "open", "Unbuilt 0", 0, "a"),
+    ("}a", "close", "done", 0, "a"),
+    ("{a", "close", "Unbuilt 0", 0, "a"),
+    ("abc", "text ab", "done", 0, "c"),
+    ("a_b", "text ab", "Unbuilt 1", 0, "b"),
+    ("a", "text ab", "Unbuilt 77", 0, ""),
+    ("a", "text ", "done", 0, "a"),
+    ("_{ab}c", "name ab", "done", 0, "c"),
+    ("{_ab}", "name ab", "Unbuilt 1", 0, "ab}"),
+    ("{abc}", "name ab", "Unbuilt 3", 0, "}"),
+    ("Fxy", "next", "(", 4, "x)y"),
+    ("H_a", "next", "_", 1, "a"),
+    ("H", "next", "none", 1, ""),
+    ("F|", "next", "MacroArg 0", 0, ""),
+    ("H_|_Ha", "solid", "a", 2, ""),
+    ("_H_", "solid", "none", 1, ""),
+    ("_F", "solid", "MacroArg 1", 0, ""),
+    ("Fx", "next-char (", "done", 4, "x)"),
+    ("_a", "next-char a", "Unbuilt 0", 0, "a"),
+    ("H", "next-char a", "Unbuilt 77", 1, ""),
+    ("aHb|c", "letters abc", "done", 1, ""),
+    ("aFb", "letters a(c", "Unbuilt 2", 4, ")"),
 ];
 
 fn kind_of(character: char) -> Kind {
@@ -170,8 +149,7 @@ fn kind_of(character: char) -> Kind {
         '{' => Kind::Open,
         '}' => Kind::Close,
         '_' => Kind::Space,
-        '1' => Kind::Arg(1),
-        '2' => Kind::Arg(2),
+        '#' => Kind::Param,
         'A'..='Z' => Kind::Word(character as u32),
         _ => Kind::Char(character),
     }
@@ -267,8 +245,13 @@ fn met(alloc: Global, given: Result<(), Fault>) -> Result<String, Fail> {
 fn store(alloc: Global) -> Result<Store, Fail> {
     let mut store = Store::new(alloc)?;
     for (word, args, body) in &MACROS {
-        let body = Body::from_vec(toks(alloc, body, 100)?)?;
-        store.set_macro(*word as u32, Macro { args: *args, body })?;
+        let args = *args;
+        let Ok(body) = Body::parse(alloc, args, &toks(alloc, body, 100)?) else {
+            return Err("no body".into());
+        };
+        if args <= 9 {
+            store.set_macro(*word as u32, Macro { args, body })?;
+        }
     }
     Ok(store)
 }
@@ -297,27 +280,39 @@ fn rest_of(alloc: Global, mut input: Input) -> Result<String, Fail> {
     shown(alloc, &toks)
 }
 
-/// What a call that reads tokens as they are written gives.
-fn written(alloc: Global, call: Call, input: &mut Input) -> Result<String, Fail> {
+/// The first character of a text.
+fn first_of(text: &str) -> char {
+    text.chars().next().unwrap_or('?')
+}
+
+/// What a call that takes a list of tokens gives.
+fn taken(alloc: Global, call: &str, text: &str, input: &mut Input) -> Result<String, Fail> {
     match call {
-        Call::First => token_shown(alloc, input.first()),
-        Call::Raw => token_shown(alloc, input.raw()),
-        Call::SkipSpaces => {
+        "first" => token_shown(alloc, input.first()),
+        "raw" => token_shown(alloc, input.raw()),
+        "until" => found_shown(alloc, input.until(first_of(text))?),
+        "group" => found_shown(alloc, input.group()?),
+        "argument" => list_shown(alloc, input.argument(9)),
+        "skip" => {
             input.skip_spaces();
             met(alloc, Ok(()))
         }
-        Call::Until(stop) => found_shown(alloc, input.until(stop)?),
-        Call::Group => found_shown(alloc, input.group()?),
-        Call::Argument => list_shown(alloc, input.argument(9)),
-        Call::Token => match input.token(Code::Unbuilt) {
+        _ => written(alloc, call, text, input),
+    }
+}
+
+/// What a call gives that reads what has to be there as it is written.
+fn written(alloc: Global, call: &str, text: &str, input: &mut Input) -> Result<String, Fail> {
+    match call {
+        "token" => match input.token(Code::Unbuilt) {
             Ok(tok) => shown(alloc, &[tok]),
             Err(fault) => fault_shown(alloc, fault),
         },
-        Call::Char(wanted) => met(alloc, input.expect_char(Code::Unbuilt, wanted)),
-        Call::Open => met(alloc, input.expect_open(Code::Unbuilt)),
-        Call::Close => met(alloc, input.expect_close(Code::Unbuilt)),
-        Call::Text(text) => met(alloc, input.expect_text(Code::Unbuilt, text.as_bytes())),
-        Call::Name(name) => met(alloc, input.expect_name(Code::Unbuilt, name.as_bytes())),
+        "char" => met(alloc, input.expect_char(Code::Unbuilt, first_of(text))),
+        "open" => met(alloc, input.expect_open(Code::Unbuilt)),
+        "close" => met(alloc, input.expect_close(Code::Unbuilt)),
+        "text" => met(alloc, input.expect_text(Code::Unbuilt, text.as_bytes())),
+        "name" => met(alloc, input.expect_name(Code::Unbuilt, text.as_bytes())),
         _ => Err("no such call".into()),
     }
 }
@@ -325,23 +320,24 @@ fn written(alloc: Global, call: Call, input: &mut Input) -> Result<String, Fail>
 /// What a call gives.
 fn given(
     alloc: Global,
-    call: Call,
+    call: &str,
     input: &mut Input,
     store: &Store,
     units: &mut Units,
 ) -> Result<String, Fail> {
-    match call {
-        Call::Next => next_shown(alloc, input.next(store, units)),
-        Call::Solid => next_shown(alloc, input.next_solid(store, units)),
-        Call::NextChar(wanted) => done(
+    let (name, text) = call.split_once(' ').unwrap_or((call, ""));
+    match name {
+        "next" => next_shown(alloc, input.next(store, units)),
+        "solid" => next_shown(alloc, input.next_solid(store, units)),
+        "next-char" => done(
             alloc,
-            input.expect_next(Code::Unbuilt, wanted, store, units),
+            input.expect_next(Code::Unbuilt, first_of(text), store, units),
         ),
-        Call::Letters(text) => done(
+        "letters" => done(
             alloc,
             input.expect_letters(Code::Unbuilt, text.as_bytes(), store, units),
         ),
-        _ => written(alloc, call, input),
+        _ => taken(alloc, name, text, input),
     }
 }
 
@@ -374,7 +370,7 @@ fn what_stands_next_is_read(rt: HostRuntime) -> Result<(), Fail> {
             used: 1,
             budget: 99,
         };
-        let answer = given(alloc, *call, &mut input, &store, &mut units)?;
+        let answer = given(alloc, call, &mut input, &store, &mut units)?;
         assert_eq!(rt; answer.as_str(), *wanted, "{text}");
         assert_eq!(rt; units.used, used.saturating_add(1), "{text}");
         assert_eq!(rt; input.end(), 77);
