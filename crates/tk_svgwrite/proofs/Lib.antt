@@ -3,4 +3,5 @@ pub mod Numbers
 pub mod Paint
 pub mod PathData
 pub mod Settings
+pub mod Strokes
 pub mod Writing

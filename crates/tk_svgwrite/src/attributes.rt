@@ -8,9 +8,10 @@ ghost use Rattle.tk_item.specs.Lengths.{AreDashes};
 ghost use Rattle.tk_svgwrite.specs.Plain.{attribute_text, attributes_text, setting, differing, numbers_text, dash_text};
 
 use crate::values::{put_number, put_numbers};
+use arrayvec::ArrayVec;
 use std::alloc::AllocError;
 use tk_item::Dashes;
-use tk_num::{Scaled, print};
+use tk_num::{Digits, Scaled, push_text};
 
 /// Writes an attribute.
 pub fn put_attribute(out: &mut Vec<u8>, name: &[u8], value: &[u8]) -> Result<(), AllocError>
@@ -64,7 +65,9 @@ pub fn put_number_setting(
     ensures text { OnOk result (out.new.items ≡ out.old.items ++ attributes_text (differing (setting name.now initial.now (text_of value) ∷ []))) }
     ensures range { OnOk result (IsScaled value) }
 {
-    put_setting(out, name, initial, print(value.sp()).as_str().as_bytes())
+    let mut digits: Digits = ArrayVec::new();
+    push_text(&mut digits, value.sp());
+    put_setting(out, name, initial, digits.as_slice())
 }
 
 /// The same for dashes.

@@ -8,11 +8,13 @@ ghost use Rattle.tk_item.specs.declared.Item.TheVariants.{Path};
 ghost use Rattle.tk_svg.specs.Document.{IsFamily};
 ghost use Rattle.tk_svg.specs.Fitting.{Fits, FitsBox};
 ghost use Rattle.tk_svgwrite.specs.Plain.{attribute_text, attributes_text, differing, fill_settings, stroke_settings, item_text, points_text, numbers_text, box_text, frame_width, frame_height, svg_text};
+ghost use Rattle.tk_svgwrite.specs.Looks.{IsKept};
 ghost use Rattle.tk_svgwrite.specs.Ranges.{FillInRange, StrokeInRange, StrokeNumbersInRange, ItemInRange};
 
 use crate::attributes::{
     close_attribute, open_attribute, put_attribute, put_dashes, put_number_setting, put_setting,
 };
+use crate::looks::Look;
 use crate::values::{
     cap_word, join_word, put_data, put_number, put_pair, put_scaled, rgb_digits, rule_word,
 };
@@ -20,39 +22,37 @@ use std::alloc::AllocError;
 use tk_item::{Drawing, Fill, Frame, Item, Seg, Stroke, Text};
 use tk_num::Scaled;
 
-/// Writes the element of an item. Labels are not written.
+/// Writes the element of an item. Labels are not written. `look` is that of the path before.
 #[tactic(auto, unfolding(crate::specs::Plain::item_text))]
-pub fn put_item(out: &mut Vec<u8>, item: &Item) -> Result<(), AllocError>
+pub fn put_item(out: &mut Vec<u8>, look: &mut Look, item: &Item) -> Result<(), AllocError>
+    requires { IsKept look.old }
     ensures text { OnOk result (out.new.items ≡ out.old.items ++ item_text item.now) }
     ensures range { OnOk result (ItemInRange item.now) }
+    ensures kept { OnOk result (IsKept look.new) }
 {
     match item {
-        Item::Path(segs, fill, stroke) => put_path(out, segs.as_slice(), *fill, stroke),
+        Item::Path(segs, fill, stroke) => {
+            look.set(*fill, stroke)?;
+            put_path(out, segs.as_slice(), look)
+        }
         Item::Label(_) => Ok(()),
     }
 }
 
-fn put_path(
-    out: &mut Vec<u8>,
-    segs: &[Seg],
-    fill: Option<Fill>,
-    stroke: &Option<Stroke>,
-) -> Result<(), AllocError>
-    ensures text { OnOk result (out.new.items ≡ out.old.items ++ item_text (Path segs.now fill stroke.now)) }
-    ensures range { OnOk result (ItemInRange (Path segs.now fill stroke.now)) }
+/// Writes the element of a path that looks so.
+fn put_path(out: &mut Vec<u8>, segs: &[Seg], look: &Look) -> Result<(), AllocError>
+    requires { IsKept look.now }
+    ensures text { OnOk result (out.new.items ≡ out.old.items ++ item_text (Path segs.now look.now.fill look.now.stroke)) }
+    ensures range { OnOk result (ItemInRange (Path segs.now look.now.fill look.now.stroke)) }
 {
-    out.extend_from_slice(b"<path")?;
-    open_attribute(out, b"d")?;
+    out.extend_from_slice(b"<path d=\"")?;
     put_data(out, segs)?;
-    close_attribute(out)?;
-    put_fill(out, fill)?;
-    put_stroke(out, stroke)?;
-    out.extend_from_slice(b"/>\n")?;
+    out.extend_from_slice(look.as_slice())?;
     Ok(())
 }
 
 /// Writes how a path is filled.
-fn put_fill(out: &mut Vec<u8>, fill: Option<Fill>) -> Result<(), AllocError>
+pub fn put_fill(out: &mut Vec<u8>, fill: Option<Fill>) -> Result<(), AllocError>
     ensures text { OnOk result (out.new.items ≡ out.old.items ++ attributes_text (differing (fill_settings fill))) }
     ensures range { OnOk result (FillInRange fill) }
 {
@@ -67,7 +67,7 @@ fn put_fill(out: &mut Vec<u8>, fill: Option<Fill>) -> Result<(), AllocError>
 
 /// Writes how a path is drawn.
 #[tactic(auto, unfolding(crate::specs::Plain::differing))]
-fn put_stroke(out: &mut Vec<u8>, stroke: &Option<Stroke>) -> Result<(), AllocError>
+pub fn put_stroke(out: &mut Vec<u8>, stroke: &Option<Stroke>) -> Result<(), AllocError>
     ensures text { OnOk result (out.new.items ≡ out.old.items ++ attributes_text (differing (stroke_settings stroke.now))) }
     ensures range { OnOk result (StrokeInRange stroke.now) }
 {

@@ -14,13 +14,18 @@ ghost use Rattle.tk_svgwrite.specs.Plain.{document_text};
 
 mod attributes;
 mod elements;
+mod looks;
 #[cfg(test)]
 mod tests;
 mod values;
 
 use elements::{put_item, put_svg};
+use looks::Look;
 use std::alloc::{AllocError, Global};
 use tk_item::Drawing;
+
+/// The room that is asked for at first for each item. Where its line is longer, more is asked for.
+const LINE: usize = 64;
 
 /// Writes the SVG document of a drawing of paths, in time linear in its length. The document means
 /// this drawing and no other. The only error is want of memory.
@@ -30,11 +35,13 @@ pub fn write_svg(alloc: Global, drawing: &Drawing) -> Result<Vec<u8>, AllocError
     ensures text { IfOk result (λ v. v.items ≡ document_text drawing.now) }
     ensures means { IfOk result (λ v. IsDocument v.items drawing.now) }
 {
-    let mut out = Vec::new(alloc);
+    let items = drawing.items.as_slice();
+    let mut out = Vec::with_capacity(alloc, items.len().saturating_mul(LINE))?;
+    let mut look = Look::new(alloc)?;
     out.extend_from_slice(b"<?xml version=\"1.0\" encoding=\"UTF-8\"?>\n")?;
     put_svg(&mut out, drawing)?;
-    for item in drawing.items.as_slice() {
-        put_item(&mut out, item)?;
+    for item in items {
+        put_item(&mut out, &mut look, item)?;
     }
     out.extend_from_slice(b"</svg>\n")?;
     Ok(out)

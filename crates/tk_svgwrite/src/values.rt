@@ -8,15 +8,18 @@ ghost use Rattle.tk_num.specs.Text.{text_of};
 ghost use Rattle.tk_svgwrite.specs.Plain.{numbers_text, numbers_of_point, piece_text, data_text, hex_glyph, rgb_text, rule_text, cap_text, join_text};
 ghost use Rattle.tk_svgwrite.specs.Ranges.{PointInRange, PieceInRange, RgbInRange};
 
+use arrayvec::ArrayVec;
 use std::alloc::AllocError;
 use tk_item::{Cap, Join, Point, Rgb, Rule, Seg};
-use tk_num::{Scaled, print};
+use tk_num::{Digits, Scaled, push_text};
 
 /// Writes a number.
 pub fn put_number(out: &mut Vec<u8>, sp: i64) -> Result<(), AllocError>
     ensures { OnOk result (out.new.items ≡ out.old.items ++ text_of sp) }
 {
-    out.extend_from_slice(print(sp).as_str().as_bytes())
+    let mut digits: Digits = ArrayVec::new();
+    push_text(&mut digits, sp);
+    out.extend_from_slice(digits.as_slice())
 }
 
 /// The same of a scaled number.
@@ -74,21 +77,12 @@ fn put_piece(out: &mut Vec<u8>, seg: Seg) -> Result<(), AllocError>
     ensures range { OnOk result (PieceInRange seg) }
 {
     match seg {
-        Seg::Move(p) => {
-            out.push(b'M')?;
-            put_point(out, p)
-        }
-        Seg::Line(p) => {
-            out.push(b'L')?;
-            put_point(out, p)
-        }
+        Seg::Move(p) => put_point(out, b'M', p),
+        Seg::Line(p) => put_point(out, b'L', p),
         Seg::Curve(p, q, r) => {
-            out.push(b'C')?;
-            put_point(out, p)?;
-            out.push(b' ')?;
-            put_point(out, q)?;
-            out.push(b' ')?;
-            put_point(out, r)
+            put_point(out, b'C', p)?;
+            put_point(out, b' ', q)?;
+            put_point(out, b' ', r)
         }
         Seg::Close => {
             out.push(b'Z')?;
@@ -97,12 +91,25 @@ fn put_piece(out: &mut Vec<u8>, seg: Seg) -> Result<(), AllocError>
     }
 }
 
-/// Writes the numbers of a point, whose y is upward and is written downward.
-fn put_point(out: &mut Vec<u8>, p: Point) -> Result<(), AllocError>
-    ensures text { OnOk result (out.new.items ≡ out.old.items ++ numbers_text (numbers_of_point p)) }
+/// Writes a character, and behind it the numbers of a point.
+fn put_point(out: &mut Vec<u8>, front: u8, p: Point) -> Result<(), AllocError>
+    ensures text { OnOk result (out.new.items ≡ out.old.items ++ front ∷ numbers_text (numbers_of_point p)) }
     ensures range { OnOk result (PointInRange p) }
 {
-    put_pair(out, p.x.sp(), -p.y.sp())
+    out.extend_from_slice(point_text(front, p).as_slice())
+}
+
+/// A character, and behind it the numbers of a point, whose y is upward and is written downward.
+fn point_text(front: u8, p: Point) -> Digits
+    ensures text { result.items ≡ front ∷ numbers_text (numbers_of_point p) }
+    ensures range { PointInRange p }
+{
+    let mut digits: Digits = ArrayVec::new();
+    digits.push(front);
+    push_text(&mut digits, p.x.sp());
+    digits.push(b' ');
+    push_text(&mut digits, -p.y.sp());
+    digits
 }
 
 /// A colour as `#` and six digits.

@@ -1,0 +1,115 @@
+//! How paths look. What is written of a path behind its data is kept, and copied for each path that looks
+//! like the one before.
+
+ghost use Rattle.std.specs.Prelude.{◌≡◌, ◌∷◌, ◌++◌, [], OnOk, IfOk, IsTrue, Some};
+ghost use Rattle.tk_svgwrite.specs.Looks.{look_text, IsLook, IsKept};
+
+use crate::elements::{put_fill, put_stroke};
+use std::alloc::{AllocError, Global};
+use tk_item::{Dashes, Fill, Stroke};
+
+/// A fill and a stroke, with the bytes that are written of them behind a path's data: for one that is not
+/// filled, and drawn in black with a width of 1, these are `" fill="none" stroke="#000000"/>` and a line
+/// feed.
+#[derive(Drop)]
+pub struct Look {
+    fill: Option<Fill>,
+    stroke: Option<Stroke>,
+    text: Vec<u8>,
+}
+
+impl Look {
+    /// The look of a path that is neither filled nor drawn.
+    pub fn new(alloc: Global) -> Result<Look, AllocError>
+        ensures { IfOk result IsKept }
+    {
+        let mut text = Vec::new(alloc);
+        put_look(&mut text, None, &None)?;
+        Ok(Look {
+            fill: None,
+            stroke: None,
+            text,
+        })
+    }
+
+    /// Becomes the look of this fill and stroke. The bytes are found anew only where it was another.
+    pub fn set(&mut self, fill: Option<Fill>, stroke: &Option<Stroke>) -> Result<(), AllocError>
+        requires { IsKept self.old }
+        ensures kept { OnOk result (IsKept self.new) }
+        ensures fill { OnOk result (self.new.fill ≡ fill) }
+        ensures stroke { OnOk result (self.new.stroke ≡ stroke.now) }
+    {
+        if self.fill == fill && are_same(&self.stroke, stroke) {
+            return Ok(());
+        }
+        self.text.clear();
+        put_look(&mut self.text, fill, stroke)?;
+        self.fill = fill;
+        self.stroke = copy_of(stroke);
+        Ok(())
+    }
+
+    /// The bytes of the look.
+    pub fn as_slice(&self) -> &[u8]
+        ensures { result.now ≡ self.now.text.items }
+    {
+        self.text.as_slice()
+    }
+}
+
+/// Writes the bytes of a look.
+fn put_look(
+    out: &mut Vec<u8>,
+    fill: Option<Fill>,
+    stroke: &Option<Stroke>,
+) -> Result<(), AllocError>
+    requires { out.old.items ≡ [] }
+    ensures { OnOk result (IsLook fill stroke.now out.new.items) }
+{
+    out.push(b'"')?;
+    put_fill(out, fill)?;
+    put_stroke(out, stroke)?;
+    out.extend_from_slice(b"/>\n")?;
+    Ok(())
+}
+
+/// Whether two strokes, or their absence, are the same.
+fn are_same(one: &Option<Stroke>, other: &Option<Stroke>) -> bool
+    ensures { IsTrue result → one.now ≡ other.now }
+{
+    match (one, other) {
+        (None, None) => true,
+        (Some(one), Some(other)) => is_same(one, other),
+        _ => false,
+    }
+}
+
+fn is_same(one: &Stroke, other: &Stroke) -> bool
+    ensures { IsTrue result → one.now ≡ other.now }
+{
+    if one.rgb != other.rgb || one.cap != other.cap || one.join != other.join {
+        return false;
+    }
+    if one.width != other.width || one.miter != other.miter || one.phase != other.phase {
+        return false;
+    }
+    one.dash.as_slice() == other.dash.as_slice()
+}
+
+/// The same stroke once more.
+fn copy_of(stroke: &Option<Stroke>) -> Option<Stroke>
+    ensures { result ≡ stroke.now }
+{
+    match stroke {
+        None => None,
+        Some(stroke) => Some(Stroke {
+            rgb: stroke.rgb,
+            width: stroke.width,
+            cap: stroke.cap,
+            join: stroke.join,
+            miter: stroke.miter,
+            dash: stroke.dash.copy(),
+            phase: stroke.phase,
+        }),
+    }
+}
