@@ -4,7 +4,7 @@ use Rattle.std.specs.Option.{option_map_or}
 use Rattle.tk_io.specs.declared.Failed.{Failed}
 use Rattle.tk_io.specs.Causes.{count_on, is_listed}
 use Rattle.tk_io.specs.Shelf.{Shelved}
-use Rattle.tk_io.specs.Desk.{OnDesk, file_at, place_of, bytes_under, left_of, is_current, opened_at, moved_on}
+use Rattle.tk_io.specs.Desk.{OnDesk, file_at, find_file, bytes_under, open_rest, is_current, opened_at, moved_on}
 
 -- a shelf in memory as its callers see it
 pub record Stock : Type 0 where
@@ -27,11 +27,11 @@ count_at stock place = option_map_or (λ place. slice_index stock.faults place) 
 
 -- the count of a name
 abbrev pub faults_of : Stock → List ℕ → ℕ
-faults_of stock name = count_at stock (place_of stock.desk name)
+faults_of stock name = count_at stock (find_file stock.desk name)
 
 -- what a shelf in memory means as a shelf
 abbrev pub stock_means : Stock → Shelved
-stock_means stock = record { holds = Some (bytes_under stock.desk); left = left_of stock.desk; taken = stock.desk.taken; is_open = is_current stock.desk; faults = faults_of stock; sure = false }
+stock_means stock = record { holds = Some (bytes_under stock.desk); left = open_rest stock.desk; taken = stock.desk.taken; is_open = is_current stock.desk; faults = faults_of stock; sure = false }
 
 -- a shelf on which this is the next call, with its files as they then are
 abbrev pub called : Stock → OnDesk → Stock
@@ -45,9 +45,9 @@ blamed (Some place) stock = record stock { faults = slice_set stock.faults place
 -- what opening a name does
 pub record OpensStock (name : List ℕ) (old new : Stock) (result : Result (Unit {0}) Failed) : Type 0 where
   -- it fails exactly on the listed calls and on a missing name
-  pub fails : IsErr result ↔ (IsTrue (is_listed old.failing (count_on old.calls 1)) ⊎ (place_of old.desk name ≡ None))
-  pub opened : OnOk result (IfSome (place_of old.desk name) (λ place. new ≡ called old (opened_at old.desk place)))
-  pub failed : OnErr result (new ≡ blamed (place_of old.desk name) (called old (record old.desk { current = None; taken = 0 })))
+  pub fails : IsErr result ↔ (IsTrue (is_listed old.failing (count_on old.calls 1)) ⊎ (find_file old.desk name ≡ None))
+  pub opened : OnOk result (IfSome (find_file old.desk name) (λ place. new ≡ called old (opened_at old.desk place)))
+  pub failed : OnErr result (new ≡ blamed (find_file old.desk name) (called old (record old.desk { current = None; taken = 0 })))
 
 -- what reading the open file, the one at a place, does
 pub record ReadsStock (place : ℕ) (old new : Stock) (result : Result ℕ Failed) (before after : List ℕ) : Type 0 where

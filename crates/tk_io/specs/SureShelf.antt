@@ -5,7 +5,7 @@ use Rattle.std.specs.Str.{bytes_eq}
 use Rattle.tk_io.specs.declared.sure.Absent.{Absent}
 use Rattle.tk_io.specs.declared.sure.Absent.TheVariants.{Nothing, Input, Other}
 use Rattle.tk_io.specs.Shelf.{Shelved, dash}
-use Rattle.tk_io.specs.Desk.{OnDesk, file_at, place_of, bytes_under, left_of, is_current, opened_at, moved_on}
+use Rattle.tk_io.specs.Desk.{OnDesk, file_at, find_file, bytes_under, open_rest, is_current, opened_at, moved_on}
 
 -- a sure shelf as its callers see it
 pub record Sure : Type 0 where
@@ -20,7 +20,7 @@ sure_holds desk name = option_or (bytes_under desk name) (if bytes_eq name dash 
 
 -- the bytes left of the open name: none of one that it doesn't have
 abbrev pub sure_left : OnDesk → Absent → Option (List ℕ)
-sure_left desk Nothing = left_of desk
+sure_left desk Nothing = open_rest desk
 sure_left desk Input = Some []
 sure_left desk Other = Some []
 
@@ -28,7 +28,7 @@ sure_left desk Other = Some []
 abbrev pub sure_open : OnDesk → Absent → List ℕ → Bool
 sure_open desk Nothing name = is_current desk name
 sure_open desk Input name = bytes_eq name dash
-sure_open desk Other name = is_none (place_of desk name) && not (bytes_eq name dash)
+sure_open desk Other name = is_none (find_file desk name) && not (bytes_eq name dash)
 
 -- what a sure shelf means as a shelf
 abbrev pub sure_means : Sure → Shelved
@@ -38,12 +38,12 @@ sure_means shelf = record { holds = Some (sure_holds shelf.desk); left = sure_le
 pub record IsSure (shelf : Sure) : Type 0 where
   pub shut : shelf.absent ≢ Nothing → shelf.desk.current ≡ None
   pub unread : shelf.absent ≢ Nothing → shelf.desk.taken ≡ 0
-  pub input : shelf.absent ≡ Input → place_of shelf.desk dash ≡ None
+  pub input : shelf.absent ≡ Input → find_file shelf.desk dash ≡ None
 
 -- what opening a name does: it opens its file, or nothing but the name
 pub record OpensSure (name : List ℕ) (old new : Sure) : Type 0 where
-  pub there : IfSome (place_of old.desk name) (λ place. new ≡ record { desk = opened_at old.desk place; absent = Nothing })
-  pub missing : place_of old.desk name ≡ None → new ≡ record { desk = record old.desk { current = None; taken = 0 }; absent = if bytes_eq name dash then Input else Other }
+  pub there : IfSome (find_file old.desk name) (λ place. new ≡ record { desk = opened_at old.desk place; absent = Nothing })
+  pub missing : find_file old.desk name ≡ None → new ≡ record { desk = record old.desk { current = None; taken = 0 }; absent = if bytes_eq name dash then Input else Other }
 
 -- what reading n bytes of the open file, the one at a place, does
 pub record ReadsSure (place n : ℕ) (old new : Sure) (before after : List ℕ) : Type 0 where

@@ -3,7 +3,7 @@
 ghost use Rattle.std.specs.Prelude.{◌≡◌, ◌-◌, ◌<◌, min, length, take, drop, None};
 ghost use Rattle.std.specs.Prelude.{position, string_bytes, ◌↔◌, IsTrue};
 ghost use Rattle.std.specs.Str.{bytes_eq};
-ghost use Rattle.tk_io.specs.Desk.{new_desk, shown, place_of, file_at, opened_at, moved_on, IsDesk, NamesDiffer};
+ghost use Rattle.tk_io.specs.Desk.{new_desk, shown, find_file, file_at, opened_at, moved_on, IsDesk, NamesDiffer};
 
 use std::marker::Model;
 
@@ -51,8 +51,8 @@ impl Desk {
     }
 
     // The place of the file of that name.
-    pub(crate) fn place_of(&self, name: &str) -> Option<usize>
-        ensures place { result ≡ place_of self.now name.now }
+    pub(crate) fn find(&self, name: &str) -> Option<usize>
+        ensures place { result ≡ find_file self.now name.now }
     {
         place_in(&self.files, name)
     }
@@ -83,7 +83,7 @@ impl Desk {
 
     // Opens the file at a place, which is the first of its name.
     pub(crate) fn open_at(&mut self, place: usize)
-        requires { place_of self.old (file_at self.old place).0 ≡ Some place }
+        requires { find_file self.old (file_at self.old place).0 ≡ Some place }
         ensures { self.new ≡ opened_at self.old place }
     {
         let is_input = self.file(place).name.as_str() == "-";

@@ -83,7 +83,7 @@ impl Shelf for MemShelf {
     {
         self.calls = self.calls.saturating_add(1);
         self.desk.close();
-        let Some(place) = self.desk.place_of(name) else {
+        let Some(place) = self.desk.find(name) else {
             self.blame(None);
             return Err(Failed);
         };

@@ -58,7 +58,7 @@ impl Shelf for SureShelf {
         ensures never { result ≡ Ok tt }
         ensures exactly { OpensSure name.now self.old self.new }
     {
-        match self.desk.place_of(name) {
+        match self.desk.find(name) {
             Some(place) => {
                 self.desk.open_at(place);
                 self.absent = Absent::Nothing;
