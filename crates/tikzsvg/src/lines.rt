@@ -15,7 +15,7 @@ pub struct Placed {
 }
 
 fn code_name(code: Code) -> &'static str
-    ensures { result.now ≡ text.name_of code }
+    ensures { result.now ≡ text.code_name code }
 {
     match code {
         Code::NotUtf8 => "NotUtf8",
