@@ -13,156 +13,119 @@ const LINE: &str = "<?xml version=\"1.0\" encoding=\"UTF-8\"?>
 </svg>
 ";
 
-/// What a shelf or a sink does at most in one call, and which of its calls fail. The calls of a shelf
-/// are numbered from 1: the first opens the file, and the second reads.
-#[derive(Clone, Copy)]
-struct Limits<'a> {
-    most: usize,
-    failing: &'a [u64],
-}
+/// The most bytes of one call of a shelf or a sink, and which of its calls fails, the first being 1:
+/// 0 for none. The first call of a shelf opens the file, and the second reads.
+type Limits = (usize, u64);
 
-/// Nothing fails.
-const SOUND: Limits<'static> = Limits {
-    most: 1_000_000,
-    failing: &[],
-};
-
-/// Nothing fails, and bytes go one by one.
-const SLOW: Limits<'static> = Limits {
-    most: 1,
-    failing: &[],
-};
-
-/// What a run did.
-#[derive(Drop)]
-struct Ran {
-    status: u8,
-    out: MemSink,
-    err: MemSink,
-}
-
-/// A file of that name: the picture of one line.
-fn picture(alloc: Global, name: &str, line: &str) -> Result<MemFile, AllocError> {
-    let source = format!(in alloc; "\\begin{{tikzpicture}}\n{line}\n\\end{{tikzpicture}}\n")?;
+/// A file of that name: the picture of one line, or of a corner, which isn't built.
+fn picture(alloc: Global, name: &str, is_line: bool) -> Result<MemFile, AllocError> {
+    let source: &[u8] = if is_line {
+        b"\\begin{tikzpicture}\n\\draw (0,0) -- (1,0);\n\\end{tikzpicture}\n"
+    } else {
+        b"\\begin{tikzpicture}\n\\draw (0,0) -| (1,1);\n\\end{tikzpicture}\n"
+    };
     Ok(MemFile {
         name: String::from_str(alloc, name)?,
-        bytes: Vec::from_slice(alloc, source.as_bytes())?,
+        bytes: Vec::from_slice(alloc, source)?,
     })
 }
 
-fn sink(alloc: Global, limits: Limits<'_>) -> Result<MemSink, AllocError> {
-    MemSink::new(
-        alloc,
-        4096,
-        limits.most.max(1),
-        limits.failing.to_vec(alloc)?,
-    )
+fn sink(alloc: Global, limits: Limits) -> Result<MemSink, AllocError> {
+    let failing = vec![in alloc; limits.1; 1]?;
+    MemSink::new(alloc, 4096, limits.0.max(1), failing)
 }
 
-/// Runs `render NAME` with one file on the shelf.
-fn render(
+/// Whether `render NAME`, with one file on the shelf, ends so: with that status, so many bytes of the
+/// line's document in `out`, and that text in `err`.
+fn ends(
     alloc: Global,
     name: &str,
     file: MemFile,
-    shelf: Limits<'_>,
-    out: Limits<'_>,
-    err: Limits<'_>,
-) -> Result<Ran, AllocError> {
+    limits: (Limits, Limits, Limits),
+    status: u8,
+    written: usize,
+    said: &str,
+) -> Result<bool, AllocError> {
     let mut words = Vec::new(alloc);
     words.push(String::from_str(alloc, "render")?)?;
     words.push(String::from_str(alloc, name)?)?;
     let mut files = Vec::new(alloc);
     files.push(file)?;
-    let mut shelf = MemShelf::new(
-        alloc,
-        files,
-        shelf.most.max(1),
-        shelf.failing.to_vec(alloc)?,
-    )?;
-    let mut out = sink(alloc, out)?;
-    let mut err = sink(alloc, err)?;
-    let status = run(alloc, words.as_slice(), &mut shelf, &mut out, &mut err);
-    Ok(Ran { status, out, err })
+    let failing = vec![in alloc; limits.0.1; 1]?;
+    let mut shelf = MemShelf::new(alloc, files, limits.0.0.max(1), failing)?;
+    let mut out = sink(alloc, limits.1)?;
+    let mut err = sink(alloc, limits.2)?;
+    let answered = run(alloc, words.as_slice(), &mut shelf, &mut out, &mut err);
+    let wanted = LINE.as_bytes().get(..written);
+    Ok(answered == status && wanted == Some(out.bytes()) && err.bytes() == said.as_bytes())
 }
 
 #[test]
 fn a_failure_outside_has_its_status(rt: HostRuntime) -> Result<(), Fail> {
-    let second = Limits {
-        most: 1_000_000,
-        failing: &[2],
-    };
-    let sixteen = Limits {
-        most: 16,
-        failing: &[2],
-    };
-    let five = Limits {
-        most: 5,
-        failing: &[2],
-    };
-    let line = "\\draw (0,0) -- (1,0);";
-    let broken = "\\draw (0,0) -| (1,1);";
-    let cut = "<?xml version=\"1";
-    // the file on the shelf, that of the words, the line in it, what the three do, and what comes
-    for (there, name, line, shelf, out, err, status, written, said) in [
-        ("p.tex", "p.tex", line, SOUND, SOUND, SOUND, 0, LINE, ""),
-        ("-", "-", line, SLOW, SLOW, SLOW, 0, LINE, ""),
+    let sound = (1_000_000, 0);
+    let slow = (1, 0);
+    let second = (1_000_000, 2);
+    let sixteen = (16, 2);
+    let five = (5, 2);
+    let all = LINE.len();
+    // the file on the shelf, that of the words, whether it is a line, what the shelf and the two
+    // sinks do, and what comes
+    for (there, name, is_line, limits, status, written, said) in [
+        ("p.tex", "p.tex", true, (sound, sound, sound), 0, all, ""),
+        ("-", "-", true, (slow, slow, slow), 0, all, ""),
         (
-            "p.tex",
-            "p.tex",
-            broken,
-            SLOW,
-            SLOW,
-            SLOW,
+            "-",
+            "-",
+            false,
+            (slow, slow, slow),
             1,
-            "",
-            "p.tex:2:14: Unbuilt\n",
+            0,
+            "-:2:14: Unbuilt\n",
         ),
         (
             "p.tex",
             "p.tex",
-            line,
-            SOUND,
-            sixteen,
-            SOUND,
+            true,
+            (sound, sixteen, sound),
             4,
-            cut,
+            16,
             "tikzsvg: WriteFault\n",
         ),
         (
             "p.tex",
             "p.tex",
-            line,
-            second,
-            SOUND,
-            SOUND,
+            true,
+            (second, sound, sound),
             3,
-            "",
+            0,
             "p.tex: ReadFault\n",
         ),
         (
             "p.tex",
             "q.tex",
-            line,
-            SOUND,
-            SOUND,
-            SOUND,
+            true,
+            (sound, sound, sound),
             3,
-            "",
+            0,
             "q.tex: ReadFault\n",
         ),
-        ("p.tex", "p.tex", line, SOUND, SOUND, five, 0, LINE, ""),
-        ("p.tex", "p.tex", broken, SOUND, SOUND, five, 1, "", "p.tex"),
-        ("p.tex", "q.tex", line, SOUND, SOUND, five, 3, "", "q.tex"),
-        ("p.tex", "-x", line, SOUND, SOUND, five, 2, "", "tikzs"),
+        ("p.tex", "p.tex", true, (sound, sound, five), 0, all, ""),
+        ("p.tex", "p.tex", false, (sound, sound, five), 1, 0, "p.tex"),
+        ("p.tex", "q.tex", true, (sound, sound, five), 3, 0, "q.tex"),
+        ("p.tex", "-x", true, (sound, sound, five), 2, 0, "tikzs"),
         (
-            "p.tex", "p.tex", line, SOUND, sixteen, five, 4, cut, "tikzs",
+            "p.tex",
+            "p.tex",
+            true,
+            (sound, sixteen, five),
+            4,
+            16,
+            "tikzs",
         ),
     ] {
-        let file = picture(rt.alloc(), there, line)?;
-        let ran = render(rt.alloc(), name, file, shelf, out, err)?;
-        assert_eq!(rt; ran.status, status, "at {said}");
-        assert_eq!(rt; ran.out.bytes(), written.as_bytes(), "at {said}");
-        assert_eq!(rt; ran.err.bytes(), said.as_bytes(), "at {said}");
+        let file = picture(rt.alloc(), there, is_line)?;
+        let is_so = ends(rt.alloc(), name, file, limits, status, written, said)?;
+        assert!(rt; is_so, "at {name}, {said}");
     }
     Ok(())
 }
