@@ -156,7 +156,12 @@ fn render<H: Shelf, O: Sink, E: Sink>(
 
 /// Writes a document, and says so where `out` fails.
 fn deliver<O: Sink, E: Sink>(document: &[u8], out: &mut O, err: &mut E) -> Status
-    ensures { Delivers document.now (O.meaning out.old) (O.meaning out.new) (E.meaning err.old) (E.meaning err.new) result }
+    ensures {
+        Delivers document.now
+        (O.meaning out.old) (O.meaning out.new)
+        (E.meaning err.old) (E.meaning err.new)
+        result
+    }
 {
     match write_all(out, document) {
         Ok(()) => Status::Done,

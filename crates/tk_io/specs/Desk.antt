@@ -45,11 +45,16 @@ start_at desk place = if bytes_eq (file_at desk place).0 dash then desk.input el
 
 -- the bytes that are there under a name: of standard input those that are left
 abbrev pub bytes_under : OnDesk → List ℕ → Option (List ℕ)
-bytes_under desk name = option_map (λ place. drop (start_at desk place) (file_at desk place).1) (find_file desk name)
+bytes_under desk name =
+    option_map (λ place. drop (start_at desk place) (file_at desk place).1) (find_file desk name)
 
 -- each file's bytes are there under its name
 abbrev pub HoldsEach : OnDesk → List MemFile → Type 0
-HoldsEach desk files = (place : ℕ) (d : MemFile) → place < length files → bytes_under desk (string_bytes (slice_index_or files place d).name) ≡ Some (slice_index_or files place d).bytes.items
+HoldsEach desk files =
+    (place : ℕ) (d : MemFile)
+    → place < length files
+    → let file = slice_index_or files place d in
+    bytes_under desk (string_bytes file.name) ≡ Some file.bytes.items
 
 -- the bytes left of the open file
 abbrev pub open_rest : OnDesk → Option (List ℕ)
@@ -65,12 +70,17 @@ opened_at desk place = record desk { current = Some place; at = start_at desk pl
 
 -- n bytes of the file at a place, the open one, are handed out
 abbrev pub moved_on : OnDesk → ℕ → ℕ → OnDesk
-moved_on desk place n = record desk { at = desk.at + n; input = if bytes_eq (file_at desk place).0 dash then desk.at + n else desk.input; taken = count_on desk.taken n }
+moved_on desk place n = record desk {
+  at = desk.at + n;
+  input = if bytes_eq (file_at desk place).0 dash then desk.at + n else desk.input;
+  taken = count_on desk.taken n;
+}
 
--- what is known of every desk: the open file is the first of its name, what was handed out of it was there,
--- and so was what was handed out of standard input
+-- what is known of every desk: the open file is the first of its name, what was handed out of it was
+-- there, and so was what was handed out of standard input
 pub record IsDesk (desk : OnDesk) : Type 0 where
   pub first : (place : ℕ) → desk.current ≡ Some place → find_file desk (file_at desk place).0 ≡ Some place
   pub within : (place : ℕ) → desk.current ≡ Some place → desk.at ≤ length (file_at desk place).1
-  pub input : (place : ℕ) → desk.current ≡ Some place → (file_at desk place).0 ≡ dash → desk.at ≡ desk.input
+  pub input :
+      (place : ℕ) → desk.current ≡ Some place → (file_at desk place).0 ≡ dash → desk.at ≡ desk.input
   pub input_within : (place : ℕ) → find_file desk dash ≡ Some place → desk.input ≤ length (file_at desk place).1

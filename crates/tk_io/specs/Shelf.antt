@@ -57,7 +57,8 @@ pub record Opens
   pub missing :
       IfSome old.holds (λ holds. holds name ≡ None → old.sure ≡ false → IsErr result)
   pub opened : OnOk result (new.is_open name ≡ true)
-  -- no other name is open; only of the names that a sure shelf doesn't have it may say alike that they are
+  -- no other name is open; only of the names that a sure shelf doesn't have it may say alike that
+  -- they are
   pub only :
       OnOk result (IfSome old.holds (λ holds.
       (n : List ℕ)

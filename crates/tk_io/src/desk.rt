@@ -32,9 +32,21 @@ impl Model for Desk {
 
     ghost Value = { OnDesk };
 
-    ghost view = { λ d. record { files = map shown d.files.items; current = d.current; at = d.at; input = d.input; taken = d.taken } };
+    ghost view = { λ d. record {
+      files = map shown d.files.items;
+      current = d.current;
+      at = d.at;
+      input = d.input;
+      taken = d.taken;
+    } };
 
-    ghost invariant = { λ d. IsDesk (record { files = map shown d.files.items; current = d.current; at = d.at; input = d.input; taken = d.taken }) };
+    ghost invariant = { λ d. IsDesk (record {
+      files = map shown d.files.items;
+      current = d.current;
+      at = d.at;
+      input = d.input;
+      taken = d.taken;
+    }) };
 }
 
 impl Desk {

@@ -74,10 +74,15 @@ impl Shelf for SureShelf {
     /// Hands out as much as the buffer and the file allow. Never fails.
     fn read(&mut self, buf: &mut [u8]) -> Result<usize, Failed>
         requires { (name : List ℕ) × (sure_open self.old.desk self.old.absent name ≡ true) }
-        ensures reads { (name : List ℕ) → sure_open self.old.desk self.old.absent name ≡ true → Reads name (sure_means self.old) (sure_means self.new) result buf.new }
+        ensures reads { (name : List ℕ)
+            → sure_open self.old.desk self.old.absent name ≡ true
+            → Reads name (sure_means self.old) (sure_means self.new) result buf.new }
         ensures never { IsOk result }
-        ensures exactly { IfOk result (λ n. IfSome self.old.desk.current (λ place. ReadsSure place n self.old self.new buf.old buf.new)) }
-        ensures missing { self.old.desk.current ≡ None → (result ≡ Ok 0) × (self.new ≡ self.old) × (buf.new ≡ buf.old) }
+        ensures exactly { IfOk result (λ n.
+            IfSome self.old.desk.current (λ place.
+            ReadsSure place n self.old self.new buf.old buf.new)) }
+        ensures missing { self.old.desk.current ≡ None
+            → (result ≡ Ok 0) × (self.new ≡ self.old) × (buf.new ≡ buf.old) }
     {
         let most = buf.len();
         match self.desk.current() {
