@@ -16,7 +16,8 @@ pub data Ends (file : List ℕ) (budget : ℕ) (before after : World) : Status �
   fault : HasFault file budget before after → Ends file budget before after statuses.Fault
   too_long : IsTooLong file before after → Ends file budget before after statuses.Fault
   read_fault : ReadFails file before after → Ends file budget before after statuses.ReadFault
-  write_fault : WriteFails file budget before after → Ends file budget before after statuses.WriteFault
+  write_fault :
+      WriteFails file budget before after → Ends file budget before after statuses.WriteFault
   out_of_memory : LacksMemory before after → Ends file budget before after statuses.OutOfMemory
 
 -- how a run ends that does what is asked for

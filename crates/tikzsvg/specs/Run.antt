@@ -1,4 +1,5 @@
--- What each status of the program means.
+-- What each status of the program means. `command_of` (Words) gives `render FILE` a budget of
+-- 10,000,000 units.
 use Rattle.std.specs.Prelude.{◌≡◌, ◌≢◌, ◌⊎◌, ℕ, ◌+◌, ◌<◌, ◌≤◌, List, [], length, take, drop, Option, Some, None, IfSome, Ok, Err, unwrap_or}
 use Rattle.tk_token.specs.declared.Fault.{Fault}
 use Rattle.tk_token.specs.Answers.{Answer}
@@ -50,7 +51,8 @@ pub record WasRead (file source : List ℕ) (before after : Shelved) : Type 0 wh
   pub ended : IfSome before.holds (λ _. after.left ≡ Some [])
   pub emptied : file ≡ dash → LeavesOfInput (λ _. []) before after
 
--- the file gave one byte more than a source may have, and holds that many where the shelf tells that
+-- the file gave one byte more than a source may have, and holds that many where the shelf tells
+-- that; of standard input the rest is left then
 pub record WasTooLong (file : List ℕ) (before after : Shelved) : Type 0 where
   pub taken : after.taken ≡ most_bytes + 1
   pub long : IfSome before.holds (λ holds. most_bytes < length (unwrap_or (holds file) []))
@@ -69,8 +71,8 @@ pub record Breaks
   pub read : WasRead file source before after
   pub is : ComesTo budget source (Err fault)
 
--- no other file is touched: where the shelf tells its bytes it holds them as before, but of standard
--- input the rest, and the counts of its other files stay
+-- no other file is touched: where the shelf tells its bytes it holds what it held, but of standard
+-- input, if that is the file, the rest, and the counts of its other files stay
 pub record UsesOne (file : List ℕ) (before after : Shelved) : Type 0 where
   pub counts : Counts file before after
   pub leaves : Leaves file before after

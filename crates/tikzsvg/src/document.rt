@@ -58,14 +58,10 @@ pub fn document_of<H: Shelf>(
     budget: u64,
 ) -> Result<Vec<u8>, NoDocument>
     requires few { budget ≤ 20000000 }
-    ensures document {
-        IfOk result (λ v.
-        IsDocumentOf file.now budget (H.meaning shelf.old) (H.meaning shelf.new) v.items)
-    }
-    ensures refused {
-        IfErr result (λ e.
-        Refuses file.now budget (H.meaning shelf.old) (H.meaning shelf.new) e)
-    }
+    ensures document { IfOk result (λ v.
+        IsDocumentOf file.now budget (H.meaning shelf.old) (H.meaning shelf.new) v.items) }
+    ensures refused { IfErr result (λ e.
+        Refuses file.now budget (H.meaning shelf.old) (H.meaning shelf.new) e) }
     ensures shelf { UsesOne file.now (H.meaning shelf.old) (H.meaning shelf.new) }
 {
     let compiled = drawing_of(alloc, shelf, file, budget)?;
@@ -83,16 +79,12 @@ fn drawing_of<H: Shelf>(
     budget: u64,
 ) -> Result<Compiled, NoDocument>
     requires few { budget ≤ 20000000 }
-    ensures drawing {
-        IfOk result (λ c.
-        Draws file.now budget (H.meaning shelf.old) (H.meaning shelf.new) c.drawing)
-    }
+    ensures drawing { IfOk result (λ c.
+        Draws file.now budget (H.meaning shelf.old) (H.meaning shelf.new) c.drawing) }
     ensures fits { IfOk result (λ c. Fits c.drawing) }
     ensures paths { IfOk result (λ c. AllByRecursion IsPath c.drawing.items) }
-    ensures refused {
-        IfErr result (λ e.
-        Refuses file.now budget (H.meaning shelf.old) (H.meaning shelf.new) e)
-    }
+    ensures refused { IfErr result (λ e.
+        Refuses file.now budget (H.meaning shelf.old) (H.meaning shelf.new) e) }
     ensures shelf { UsesOne file.now (H.meaning shelf.old) (H.meaning shelf.new) }
 {
     let source = read_all(alloc, shelf, file)?;

@@ -1,7 +1,7 @@
 //! tikzsvg: compiles TikZ pictures to SVG documents.
 //!
-//! [`program::run`] is the whole program over any shelf of files and any two sinks. What stands here
-//! hands it those of the host.
+//! [`program::run`] is the whole program over any shelf of files and any two sinks. What stands
+//! here hands it those of the host.
 #![tactic(auto)]
 
 mod document;

@@ -41,8 +41,8 @@ pub enum Status {
 /// Runs the program: does what the words ask for, and answers the status of the process.
 ///
 /// `words` are those of the command line without the program's own name. `render FILE` writes the
-/// SVG document of a file's drawing to `out`; the file `-` is standard input. What went wrong is said
-/// in one line to `err`:
+/// SVG document of a file's drawing to `out`; the file `-` is standard input. What went wrong is
+/// said in one line to `err`:
 ///
 /// | status | line | when |
 /// |---|---|---|
@@ -156,12 +156,10 @@ fn render<H: Shelf, O: Sink, E: Sink>(
 
 /// Writes a document, and says so where `out` fails.
 fn deliver<O: Sink, E: Sink>(document: &[u8], out: &mut O, err: &mut E) -> Status
-    ensures {
-        Delivers document.now
+    ensures { Delivers document.now
         (O.meaning out.old) (O.meaning out.new)
         (E.meaning err.old) (E.meaning err.new)
-        result
-    }
+        result }
 {
     match write_all(out, document) {
         Ok(()) => Status::Done,

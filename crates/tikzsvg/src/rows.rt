@@ -1,5 +1,5 @@
-//! Runs on a shelf and on sinks that fail. What the program writes otherwise stands in `rows/` at the
-//! top of the repository, and is compared with what the built program writes.
+//! Runs on a shelf and on sinks that fail. What the program writes otherwise stands in `rows/` at
+//! the top of the repository, and is compared with what the built program writes.
 
 use crate::program::run;
 use std::alloc::{AllocError, Global};
@@ -13,8 +13,8 @@ const LINE: &str = "<?xml version=\"1.0\" encoding=\"UTF-8\"?>
 </svg>
 ";
 
-/// The most bytes of one call of a shelf or a sink, and which of its calls fails, the first being 1:
-/// 0 for none. The first call of a shelf opens the file, and the second reads.
+/// The most bytes of one call of a shelf or a sink, and which of its calls fails, the first being
+/// 1: 0 for none. The first call of a shelf opens the file, and the second reads.
 type Limits = (usize, u64);
 
 /// A file of that name: the picture of one line, or of a corner, which isn't built.
@@ -35,8 +35,8 @@ fn sink(alloc: Global, limits: Limits) -> Result<MemSink, AllocError> {
     MemSink::new(alloc, 4096, limits.0.max(1), failing)
 }
 
-/// Whether `render NAME`, with one file on the shelf, ends so: with that status, so many bytes of the
-/// line's document in `out`, and that text in `err`.
+/// Whether `render NAME`, with one file on the shelf, ends so: with that status, so many bytes of
+/// the line's document in `out`, and that text in `err`.
 fn ends(
     alloc: Global,
     name: &str,

@@ -65,8 +65,8 @@ pub fn own_words(alloc: Global, told: io::Result<Args>) -> Result<Vec<String>, N
     }
 }
 
-/// What the words ask for, which don't have the program's own name in front: `render FILE` asks for a
-/// document. No other words ask for anything.
+/// What the words ask for, which don't have the program's own name in front: `render FILE` asks for
+/// a document. No other words ask for anything.
 pub fn command_of(words: &[String]) -> Option<Command<'_>>
     ensures command { option_map asked_by result ≡ asked (map string_bytes words.now) }
     ensures budget { IfSome result IsWithinBudgets }

@@ -62,7 +62,8 @@ open_rest desk = option_map (λ place. drop desk.at (file_at desk place).1) desk
 
 -- whether the file of that name is open
 abbrev pub is_current : OnDesk → List ℕ → Bool
-is_current desk name = option_map_or (λ place. bytes_eq (file_at desk place).0 name) desk.current false
+is_current desk name =
+    option_map_or (λ place. bytes_eq (file_at desk place).0 name) desk.current false
 
 -- the file at a place is opened
 abbrev pub opened_at : OnDesk → ℕ → OnDesk
@@ -76,11 +77,17 @@ moved_on desk place n = record desk {
   taken = count_on desk.taken n;
 }
 
--- what is known of every desk: the open file is the first of its name, what was handed out of it was
--- there, and so was what was handed out of standard input
+-- what is known of every desk: the open file is the first of its name, what was handed out of it
+-- was there, and so was what was handed out of standard input
 pub record IsDesk (desk : OnDesk) : Type 0 where
-  pub first : (place : ℕ) → desk.current ≡ Some place → find_file desk (file_at desk place).0 ≡ Some place
+  pub first :
+      (place : ℕ)
+      → desk.current ≡ Some place
+      → find_file desk (file_at desk place).0 ≡ Some place
   pub within : (place : ℕ) → desk.current ≡ Some place → desk.at ≤ length (file_at desk place).1
   pub input :
       (place : ℕ) → desk.current ≡ Some place → (file_at desk place).0 ≡ dash → desk.at ≡ desk.input
-  pub input_within : (place : ℕ) → find_file desk dash ≡ Some place → desk.input ≤ length (file_at desk place).1
+  pub input_within :
+      (place : ℕ)
+      → find_file desk dash ≡ Some place
+      → desk.input ≤ length (file_at desk place).1

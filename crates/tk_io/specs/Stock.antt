@@ -23,7 +23,8 @@ pub record Stock : Type 0 where
 
 -- the count of the file at a place, or where there is none that of all other names
 abbrev pub count_at : Stock → Option ℕ → ℕ
-count_at stock place = option_map_or (λ place. slice_index stock.faults place) place stock.other_faults
+count_at stock place =
+    option_map_or (λ place. slice_index stock.faults place) place stock.other_faults
 
 -- the count of a name
 abbrev pub faults_of : Stock → List ℕ → ℕ

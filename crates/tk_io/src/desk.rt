@@ -107,8 +107,10 @@ impl Desk {
     // Hands out the next bytes of the open file, which is the one at this place, at most so many.
     pub(crate) fn hand_out(&mut self, place: usize, buf: &mut [u8], most: usize) -> usize
         requires { self.old.current ≡ Some place }
-        ensures count { result ≡ min (min (length buf.old) most) (length (file_at self.old place).1 - self.old.at) }
-        ensures front { take result buf.new ≡ take result (drop self.old.at (file_at self.old place).1) }
+        ensures count { result
+            ≡ min (min (length buf.old) most) (length (file_at self.old place).1 - self.old.at) }
+        ensures front { take result buf.new
+            ≡ take result (drop self.old.at (file_at self.old place).1) }
         ensures rest { drop result buf.new ≡ drop result buf.old }
         ensures moved { self.new ≡ moved_on self.old place result }
     {
