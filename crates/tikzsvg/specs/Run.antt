@@ -5,7 +5,7 @@ use Rattle.tk_token.specs.declared.Fault.{Fault}
 use Rattle.tk_token.specs.Answers.{Answer}
 use Rattle.tk_item.specs.declared.Drawing.{Drawing}
 use Rattle.tk_io.specs.Causes.{Rose}
-use Rattle.tk_io.specs.Shelf.{Shelved, Counts, Leaves, LeavesOfInput, dash}
+use Rattle.tk_io.specs.Shelf.{Shelved, Counts, Leaves, LeavesOfInput, standard_input}
 use Rattle.tk_io.specs.Sink.{Sunk, Takes}
 use Rattle.tk_svg.specs.Document.{IsDocument}
 use Rattle.tk_svgwrite.specs.Plain.{document_text}
@@ -49,14 +49,14 @@ pub record WasRead (file source : List ℕ) (before after : Shelved) : Type 0 wh
   pub short : length source ≤ most_bytes
   pub taken : after.taken ≡ length source
   pub ended : IfSome before.holds (λ _. after.left ≡ Some [])
-  pub emptied : file ≡ dash → LeavesOfInput (λ _. []) before after
+  pub emptied : file ≡ standard_input → LeavesOfInput (λ _. []) before after
 
 -- the file gave one byte more than a source may have, and holds that many where the shelf tells
 -- that; of standard input the rest is left then
 pub record WasTooLong (file : List ℕ) (before after : Shelved) : Type 0 where
   pub taken : after.taken ≡ most_bytes + 1
   pub long : IfSome before.holds (λ holds. most_bytes < length (unwrap_or (holds file) []))
-  pub input : file ≡ dash → LeavesOfInput (drop (most_bytes + 1)) before after
+  pub input : file ≡ standard_input → LeavesOfInput (drop (most_bytes + 1)) before after
 
 -- the file was read, and draws this
 pub record Draws

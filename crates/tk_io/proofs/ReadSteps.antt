@@ -13,7 +13,7 @@ use Rattle.tk_io.specs.declared.Failed.{Failed}
 use Rattle.tk_io.specs.declared.reading.ReadRefusal.{ReadRefusal}
 use Rattle.tk_io.specs.declared.reading.ReadRefusal.TheVariants.{OutOfMemory, TooLong}
 use Rattle.tk_io.specs.declared.reading.ReadRefusal.TheVariants.{Failed as ShelfFailed}
-use Rattle.tk_io.specs.Shelf.{Shelved, Counts, Opens, Reads, HandsOut, LeavesOfInput, Leaves, all_kept, input_read, dash, with_input}
+use Rattle.tk_io.specs.Shelf.{Shelved, Counts, Reads, HandsOut, LeavesOfInput, Leaves, all_kept, input_read, standard_input, with_input}
 use Rattle.tk_io.specs.Reading.{ReadsAll}
 use Rattle.tk_io.proofs.Told.{told_by, told_at}
 use Rattle.tk_io.proofs.SoFar.{SoFar}
@@ -24,7 +24,7 @@ Holds = List ℕ → Option (List ℕ)
 
 -- but for standard input both hold the same
 abbrev Alike : Holds → Holds → Type 0
-Alike now holds = (n : List ℕ) → n ≢ dash → now n ≡ holds n
+Alike now holds = (n : List ℕ) → n ≢ standard_input → now n ≡ holds n
 
 -- a value of which it holds
 some_of : {A : Type 0} (o : Option A) (P : A → Type 0) → IsSomeAnd o P → (x : A) × (o ≡ Some x) × P x
@@ -32,16 +32,16 @@ some_of None P h = absurd h
 some_of (Some x) P h = (x, refl, h)
 
 -- a name is that of standard input, or it is another
-by_name : (n : List ℕ) → (n ≡ dash) ⊎ (n ≢ dash)
-by_name n = by_test (bytes_eq n dash) (bytes_eq-Decides n dash)
+by_name : (n : List ℕ) → (n ≡ standard_input) ⊎ (n ≢ standard_input)
+by_name n = by_test (bytes_eq n standard_input) (bytes_eq-Decides n standard_input)
   where
-    by_test : (b : Bool) → Decides b (n ≡ dash) → (n ≡ dash) ⊎ (n ≢ dash)
+    by_test : (b : Bool) → Decides b (n ≡ standard_input) → (n ≡ standard_input) ⊎ (n ≢ standard_input)
     by_test true h = inl (h.0 refl)
-    by_test false h = inr (λ (same : n ≡ dash). false≢true (h.1 same))
+    by_test false h = inr (λ (same : n ≡ standard_input). false≢true (h.1 same))
 
 -- under every other name the shelf has what it had
-pub with_input-other : (left : Option (List ℕ)) (holds : Holds) (n : List ℕ) → n ≢ dash → with_input left holds n ≡ holds n
-with_input-other left holds n other = by_test (bytes_eq n dash) (λ e. other ((bytes_eq-Decides n dash).0 e))
+pub with_input-other : (left : Option (List ℕ)) (holds : Holds) (n : List ℕ) → n ≢ standard_input → with_input left holds n ≡ holds n
+with_input-other left holds n other = by_test (bytes_eq n standard_input) (λ e. other ((bytes_eq-Decides n standard_input).0 e))
   where
     by_test : (b : Bool) → (b ≡ true → ⊥) → (if b then left else holds n) ≡ holds n
     by_test true h = absurd (h refl)
@@ -49,14 +49,14 @@ with_input-other left holds n other = by_test (bytes_eq n dash) (λ e. other ((b
 
 -- what stands under the name of standard input is replaced
 pub with_input-alike : (left : Option (List ℕ)) (now holds : Holds) → Alike now holds → with_input left now ≡ with_input left holds
-with_input-alike left now holds alike = fun_ext (λ n. by_test n (bytes_eq n dash) refl)
+with_input-alike left now holds alike = fun_ext (λ n. by_test n (bytes_eq n standard_input) refl)
   where
-    by_test : (n : List ℕ) (b : Bool) → bytes_eq n dash ≡ b → (if b then left else now n) ≡ (if b then left else holds n)
+    by_test : (n : List ℕ) (b : Bool) → bytes_eq n standard_input ≡ b → (if b then left else now n) ≡ (if b then left else holds n)
     by_test n true e = refl
-    by_test n false e = alike n (λ (same : n ≡ dash). false≢true (sym e ∙ subst (λ (m : List ℕ). bytes_eq m dash ≡ true) (sym same) refl))
+    by_test n false e = alike n (λ (same : n ≡ standard_input). false≢true (sym e ∙ subst (λ (m : List ℕ). bytes_eq m standard_input ≡ true) (sym same) refl))
 
 -- what a call on a name does to the counts, after calls on the same name
-Counts-more : (name : List ℕ) (old mid new : Shelved) → Counts name old mid → IfSome old.holds (λ holds. IsSomeAnd mid.holds (λ now. Alike now holds)) → (name ≢ dash → mid.holds ≡ old.holds) → Counts name mid new → Counts name old new
+Counts-more : (name : List ℕ) (old mid new : Shelved) → Counts name old mid → IfSome old.holds (λ holds. IsSomeAnd mid.holds (λ now. Alike now holds)) → (name ≢ standard_input → mid.holds ≡ old.holds) → Counts name mid new → Counts name old new
 Counts-more name old mid new before alike same after = record {
   no_fall = λ n. omega (arith, before.no_fall n, after.no_fall n);
   others = told_by old.holds (λ holds. (n : List ℕ) → holds n ≢ None → n ≢ name → new.faults n ≡ old.faults n) (λ holds e n has other.
@@ -69,12 +69,12 @@ Counts-more name old mid new before alike same after = record {
   where
     under : (n : List ℕ) → n ≢ name → (holds : Holds) → old.holds ≡ Some holds → (now : Holds) → mid.holds ≡ Some now → Alike now holds → now n ≡ holds n
     under n other holds e now f alike = elim (by_name name) [
-      | inl is ↦ alike n (λ (at : n ≡ dash). other (at ∙ sym is))
+      | inl is ↦ alike n (λ (at : n ≡ standard_input). other (at ∙ sym is))
       | inr not ↦ (let same_holds : Some now ≡ Some holds = sym f ∙ same not ∙ e in let same_map : now ≡ holds = cc in ap (λ (h : Holds). h n) same_map)
     ]
 
 -- what a shelf holds but for standard input, after a read
-Alike-more : (name : List ℕ) (old mid new : Shelved) → IfSome old.holds (λ holds. IsSomeAnd mid.holds (λ now. Alike now holds)) → (name ≢ dash → new.holds ≡ mid.holds) → (name ≡ dash → IfSome mid.holds (λ holds. new.holds ≡ Some (with_input new.left holds))) → IfSome old.holds (λ holds. IsSomeAnd new.holds (λ now. Alike now holds))
+Alike-more : (name : List ℕ) (old mid new : Shelved) → IfSome old.holds (λ holds. IsSomeAnd mid.holds (λ now. Alike now holds)) → (name ≢ standard_input → new.holds ≡ mid.holds) → (name ≡ standard_input → IfSome mid.holds (λ holds. new.holds ≡ Some (with_input new.left holds))) → IfSome old.holds (λ holds. IsSomeAnd new.holds (λ now. Alike now holds))
 Alike-more name old mid new before other input =
     told_by old.holds (λ holds. IsSomeAnd new.holds (λ now. Alike now holds)) (λ holds e.
     let here = some_of mid.holds (λ now. Alike now holds) (told_at old.holds (λ holds. IsSomeAnd mid.holds (λ now. Alike now holds)) holds e before) in
@@ -87,13 +87,13 @@ Alike-more name old mid new before other input =
 -- of standard input the rest is left after a read
 rest_left :
     (name : List ℕ) (old mid new : Shelved) (n : ℕ)
-    → name ≡ dash
+    → name ≡ standard_input
     → IfSome old.holds (λ holds. IsSomeAnd mid.holds (λ now. Alike now holds))
-    → (name ≡ dash → IfSome mid.holds (λ holds. new.holds ≡ Some (with_input new.left holds)))
+    → (name ≡ standard_input → IfSome mid.holds (λ holds. new.holds ≡ Some (with_input new.left holds)))
     → IfSome old.holds (λ holds. new.left ≡ Some (drop n (unwrap_or (holds name) [])))
     → LeavesOfInput (drop n) old new
 rest_left name old mid new n is others input left =
-    told_by old.holds (λ holds. new.holds ≡ Some (with_input (Some (drop n (unwrap_or (holds dash) []))) holds)) (λ holds e.
+    told_by old.holds (λ holds. new.holds ≡ Some (with_input (Some (drop n (unwrap_or (holds standard_input) []))) holds)) (λ holds e.
     let here = some_of mid.holds (λ now. Alike now holds) (told_at old.holds (λ holds. IsSomeAnd mid.holds (λ now. Alike now holds)) holds e others) in
     told_at mid.holds (λ now. new.holds ≡ Some (with_input new.left now)) here.0 here.1 (input is)
     ∙ ap (λ (h : Holds). Some h) (with_input-alike new.left here.0 holds here.2)
@@ -107,7 +107,7 @@ leaves_of name old now bytes so = elim (by_name name) [
   | inr other ↦ all_kept (so.holds other)
 ]
   where
-    by_length : (n : ℕ) → now.taken ≡ n → (n ≡ 0 → now.holds ≡ old.holds) → (0 < n → LeavesOfInput (drop n) old now) → name ≡ dash → Leaves name old now
+    by_length : (n : ℕ) → now.taken ≡ n → (n ≡ 0 → now.holds ≡ old.holds) → (0 < n → LeavesOfInput (drop n) old now) → name ≡ standard_input → Leaves name old now
     by_length zero taken unmoved moved is = all_kept (unmoved refl)
     by_length (suc n) taken unmoved moved is = input_read is (subst (λ (k : ℕ). LeavesOfInput (drop k) old now) (sym taken) (moved (omega arith)))
 
@@ -178,7 +178,7 @@ ReadsAll-end name old mid new bytes buffer before read short room = record {
     | inr other ↦ all_kept (read.holds other ∙ before.holds other)
   ];
   emptied = λ is. told_by old.holds (λ holds. new.holds ≡ Some (with_input (Some []) holds)) (λ holds e.
-      told_at old.holds (λ holds. new.holds ≡ Some (with_input (Some (drop (length bytes) (unwrap_or (holds dash) []))) holds)) holds e (rest_left name old mid new (length bytes) is before.others read.input left_so)
+      told_at old.holds (λ holds. new.holds ≡ Some (with_input (Some (drop (length bytes) (unwrap_or (holds standard_input) []))) holds)) holds e (rest_left name old mid new (length bytes) is before.others read.input left_so)
       ∙ ap (λ (w : List ℕ). Some (with_input (Some w) holds)) (ap (λ (m : List ℕ). drop (length bytes) (unwrap_or (holds m) [])) (sym is) ∙ none_left holds e));
   long_input = λ _ e. cc;
 }

@@ -11,7 +11,7 @@ use Rattle.std.proofs.Math.Seq.{drop-drop}
 use mathlib.Core.Path.{fun_ext}
 use Rattle.tk_io.specs.declared.Failed.{Failed}
 use Rattle.tk_io.specs.Causes.{count_on, is_listed}
-use Rattle.tk_io.specs.Shelf.{Counts, Opens, Reads, HandsOut, dash, with_input}
+use Rattle.tk_io.specs.Shelf.{Counts, Opens, Reads, HandsOut, standard_input, with_input}
 use Rattle.tk_io.specs.Desk.{OnDesk, IsDesk, file_at, find_file, start_at, bytes_under, is_current, opened_at, moved_on}
 use Rattle.tk_io.specs.Stock.{Stock, stock_means, count_at, called, blamed, OpensStock, ReadsStock}
 use Rattle.tk_io.proofs.DeskFiles.{in_place, named}
@@ -26,25 +26,25 @@ if_false true P x y d p = absurd (p (d.0 refl))
 if_false false P x y d p = refl
 
 -- once so many bytes of standard input are behind, it has what is left of them, and every other name what it had
-pub bytes_under-input : (desk : OnDesk) (place m : ℕ) → find_file desk dash ≡ Some place → bytes_under (record desk { input = m }) ≡ with_input (Some (drop m (file_at desk place).1)) (bytes_under desk)
-bytes_under-input desk place m here = fun_ext (λ n. by_test n (bytes_eq n dash) (bytes_eq-Decides n dash))
+pub bytes_under-input : (desk : OnDesk) (place m : ℕ) → find_file desk standard_input ≡ Some place → bytes_under (record desk { input = m }) ≡ with_input (Some (drop m (file_at desk place).1)) (bytes_under desk)
+bytes_under-input desk place m here = fun_ext (λ n. by_test n (bytes_eq n standard_input) (bytes_eq-Decides n standard_input))
   where
     input : OnDesk
     input = record desk { input = m }
 
-    at_input : (n : List ℕ) → n ≡ dash → bytes_under (record desk { input = m }) n ≡ Some (drop m (file_at desk place).1)
+    at_input : (n : List ℕ) → n ≡ standard_input → bytes_under (record desk { input = m }) n ≡ Some (drop m (file_at desk place).1)
     at_input n is =
         ap (λ (o : Option ℕ). option_map (λ p. drop (start_at (record desk { input = m }) p) (file_at desk p).1) o) (ap (find_file desk) is ∙ here)
-        ∙ ap (λ (k : ℕ). Some (drop k (file_at desk place).1)) (if_true (bytes_eq (file_at desk place).0 dash) ((file_at desk place).0 ≡ dash) m 0 (bytes_eq-Decides (file_at desk place).0 dash) (named desk place dash here))
+        ∙ ap (λ (k : ℕ). Some (drop k (file_at desk place).1)) (if_true (bytes_eq (file_at desk place).0 standard_input) ((file_at desk place).0 ≡ standard_input) m 0 (bytes_eq-Decides (file_at desk place).0 standard_input) (named desk place standard_input here))
 
-    other : (n : List ℕ) → (n ≡ dash → ⊥) → (q : Option ℕ) → find_file desk n ≡ q → option_map (λ p. drop (start_at (record desk { input = m }) p) (file_at desk p).1) q ≡ option_map (λ p. drop (start_at desk p) (file_at desk p).1) q
+    other : (n : List ℕ) → (n ≡ standard_input → ⊥) → (q : Option ℕ) → find_file desk n ≡ q → option_map (λ p. drop (start_at (record desk { input = m }) p) (file_at desk p).1) q ≡ option_map (λ p. drop (start_at desk p) (file_at desk p).1) q
     other n not None e = refl
     other n not (Some p) e =
-        let name : (file_at desk p).0 ≡ dash → ⊥ = λ is. not (sym (named desk p n e) ∙ is) in
-        let test = bytes_eq-Decides (file_at desk p).0 dash in
-        ap (λ (k : ℕ). Some (drop k (file_at desk p).1)) (if_false (bytes_eq (file_at desk p).0 dash) ((file_at desk p).0 ≡ dash) m 0 test name ∙ sym (if_false (bytes_eq (file_at desk p).0 dash) ((file_at desk p).0 ≡ dash) desk.input 0 test name))
+        let name : (file_at desk p).0 ≡ standard_input → ⊥ = λ is. not (sym (named desk p n e) ∙ is) in
+        let test = bytes_eq-Decides (file_at desk p).0 standard_input in
+        ap (λ (k : ℕ). Some (drop k (file_at desk p).1)) (if_false (bytes_eq (file_at desk p).0 standard_input) ((file_at desk p).0 ≡ standard_input) m 0 test name ∙ sym (if_false (bytes_eq (file_at desk p).0 standard_input) ((file_at desk p).0 ≡ standard_input) desk.input 0 test name))
 
-    by_test : (n : List ℕ) (b : Bool) → Decides b (n ≡ dash) → bytes_under (record desk { input = m }) n ≡ (if b then Some (drop m (file_at desk place).1) else bytes_under desk n)
+    by_test : (n : List ℕ) (b : Bool) → Decides b (n ≡ standard_input) → bytes_under (record desk { input = m }) n ≡ (if b then Some (drop m (file_at desk place).1) else bytes_under desk n)
     by_test n true d = at_input n (d.0 refl)
     by_test n false d = other n (λ is. false≢true (d.1 is)) (find_file desk n) refl
 
@@ -143,9 +143,9 @@ Reads-moved name stock place n before after is some e open_ same count front = r
   taken = refl;
   none_taken = tt;
   all_left = tt;
-  holds = λ other. ap (λ (k : ℕ). Some (bytes_under (record desk { input = k }))) (if_false (bytes_eq (file_at desk place).0 dash) ((file_at desk place).0 ≡ dash) (desk.at + n) desk.input (bytes_eq-Decides (file_at desk place).0 dash) (λ is. other (sym named_so ∙ is)));
+  holds = λ other. ap (λ (k : ℕ). Some (bytes_under (record desk { input = k }))) (if_false (bytes_eq (file_at desk place).0 standard_input) ((file_at desk place).0 ≡ standard_input) (desk.at + n) desk.input (bytes_eq-Decides (file_at desk place).0 standard_input) (λ is. other (sym named_so ∙ is)));
   input = λ is_dash.
-      ap (λ (k : ℕ). Some (bytes_under (record desk { input = k }))) (if_true (bytes_eq (file_at desk place).0 dash) ((file_at desk place).0 ≡ dash) (desk.at + n) desk.input (bytes_eq-Decides (file_at desk place).0 dash) (named_so ∙ is_dash))
+      ap (λ (k : ℕ). Some (bytes_under (record desk { input = k }))) (if_true (bytes_eq (file_at desk place).0 standard_input) ((file_at desk place).0 ≡ standard_input) (desk.at + n) desk.input (bytes_eq-Decides (file_at desk place).0 standard_input) (named_so ∙ is_dash))
       ∙ ap (λ (h : List ℕ → Option (List ℕ)). Some h) (bytes_under-input desk place (desk.at + n) (ap (find_file desk) (sym (named_so ∙ is_dash)) ∙ is.first place e)
       ∙ ap (λ (o : Option ℕ). with_input (option_map (λ p. drop (desk.at + n) (file_at desk p).1) o) (bytes_under desk)) (sym e));
 }

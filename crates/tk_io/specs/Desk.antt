@@ -4,7 +4,7 @@ use Rattle.std.specs.Option.{option_map, option_map_or}
 use Rattle.std.specs.Str.{bytes_eq}
 use Rattle.tk_io.specs.declared.desk.MemFile.{MemFile}
 use Rattle.tk_io.specs.Causes.{count_on}
-use Rattle.tk_io.specs.Shelf.{dash}
+use Rattle.tk_io.specs.Shelf.{standard_input}
 
 -- files in memory as a caller sees them
 pub record OnDesk : Type 0 where
@@ -41,7 +41,7 @@ find_file desk name = position (λ file. bytes_eq file.0 name) desk.files
 
 -- how many bytes of the file at a place are behind where it is opened now
 abbrev pub start_at : OnDesk → ℕ → ℕ
-start_at desk place = if bytes_eq (file_at desk place).0 dash then desk.input else 0
+start_at desk place = if bytes_eq (file_at desk place).0 standard_input then desk.input else 0
 
 -- the bytes that are there under a name: of standard input those that are left
 abbrev pub bytes_under : OnDesk → List ℕ → Option (List ℕ)
@@ -73,7 +73,7 @@ opened_at desk place = record desk { current = Some place; at = start_at desk pl
 abbrev pub moved_on : OnDesk → ℕ → ℕ → OnDesk
 moved_on desk place n = record desk {
   at = desk.at + n;
-  input = if bytes_eq (file_at desk place).0 dash then desk.at + n else desk.input;
+  input = if bytes_eq (file_at desk place).0 standard_input then desk.at + n else desk.input;
   taken = count_on desk.taken n;
 }
 
@@ -86,8 +86,11 @@ pub record IsDesk (desk : OnDesk) : Type 0 where
       → find_file desk (file_at desk place).0 ≡ Some place
   pub within : (place : ℕ) → desk.current ≡ Some place → desk.at ≤ length (file_at desk place).1
   pub input :
-      (place : ℕ) → desk.current ≡ Some place → (file_at desk place).0 ≡ dash → desk.at ≡ desk.input
+      (place : ℕ)
+      → desk.current ≡ Some place
+      → (file_at desk place).0 ≡ standard_input
+      → desk.at ≡ desk.input
   pub input_within :
       (place : ℕ)
-      → find_file desk dash ≡ Some place
+      → find_file desk standard_input ≡ Some place
       → desk.input ≤ length (file_at desk place).1

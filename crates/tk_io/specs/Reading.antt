@@ -3,7 +3,7 @@ use Rattle.std.specs.Prelude.{◌≡◌, ◌≢◌, ℕ, ◌<◌, ◌≤◌, tru
 use Rattle.tk_io.specs.declared.reading.ReadRefusal.{ReadRefusal}
 use Rattle.tk_io.specs.declared.reading.ReadRefusal.TheVariants.{Failed, TooLong}
 use Rattle.tk_io.specs.Causes.{Rose}
-use Rattle.tk_io.specs.Shelf.{Shelved, Counts, Leaves, LeavesOfInput, dash}
+use Rattle.tk_io.specs.Shelf.{Shelved, Counts, Leaves, LeavesOfInput, standard_input}
 
 -- what reading all of a file does, whose bytes are the value of the result
 pub record ReadsAll
@@ -30,6 +30,6 @@ pub record ReadsAll
       IfSome old.holds (λ holds. 16777216 < length (unwrap_or (holds name) []) → IsErr result)
   -- what the shelf holds afterwards: of standard input nothing once it was read whole
   pub leaves : Leaves name old new
-  pub emptied : name ≡ dash → OnOk result (LeavesOfInput (λ _. []) old new)
+  pub emptied : name ≡ standard_input → OnOk result (LeavesOfInput (λ _. []) old new)
   pub long_input :
-      name ≡ dash → IsErrOf result TooLong → LeavesOfInput (drop 16777217) old new
+      name ≡ standard_input → IsErrOf result TooLong → LeavesOfInput (drop 16777217) old new

@@ -20,24 +20,25 @@ pub record Shelved : Type 0 where
   pub sure : Bool
 
 -- the name of standard input
-abbrev pub dash : List ℕ
-dash = codes "-"
+abbrev pub standard_input : List ℕ
+standard_input = codes "-"
 
 -- what a shelf holds once this is left of standard input
 abbrev pub with_input : Option (List ℕ) → (List ℕ → Option (List ℕ)) → List ℕ → Option (List ℕ)
-with_input left holds name = if bytes_eq name dash then left else holds name
+with_input left holds name = if bytes_eq name standard_input then left else holds name
 
 -- of standard input the shelf has what `rest` makes of its bytes, and all else as before
 abbrev pub LeavesOfInput : (List ℕ → List ℕ) → Shelved → Shelved → Type 0
 LeavesOfInput rest old new =
     IfSome old.holds (λ holds.
-    new.holds ≡ Some (with_input (Some (rest (unwrap_or (holds dash) []))) holds))
+    new.holds ≡ Some (with_input (Some (rest (unwrap_or (holds standard_input) []))) holds))
 
 -- reading a file leaves on the shelf what it held; of standard input, where that is the file, only
--- what is behind the bytes taken
+-- what is behind the bytes that were taken
 pub data Leaves (name : List ℕ) (old new : Shelved) : Type 0 where
   all_kept : new.holds ≡ old.holds → Leaves name old new
-  input_read : name ≡ dash → LeavesOfInput (drop new.taken) old new → Leaves name old new
+  input_read :
+      name ≡ standard_input → LeavesOfInput (drop new.taken) old new → Leaves name old new
 
 -- what a call on a name does to the counts
 pub record Counts (name : List ℕ) (old new : Shelved) : Type 0 where
@@ -95,7 +96,7 @@ pub record Reads
   -- a read that fails takes nothing
   pub none_taken : OnErr result (new.taken ≡ old.taken)
   pub all_left : OnErr result (new.left ≡ old.left)
-  pub holds : name ≢ dash → new.holds ≡ old.holds
+  pub holds : name ≢ standard_input → new.holds ≡ old.holds
   -- under the name of standard input the shelf then has what is left
   pub input :
-      name ≡ dash → IfSome old.holds (λ holds. new.holds ≡ Some (with_input new.left holds))
+      name ≡ standard_input → IfSome old.holds (λ holds. new.holds ≡ Some (with_input new.left holds))

@@ -3,7 +3,7 @@
 ghost use Rattle.std.specs.Prelude.{◌≡◌, ℕ, List, true, None, Ok, IsOk, IfOk, IfSome, if◌then◌else◌};
 ghost use Rattle.std.specs.Str.{bytes_eq};
 ghost use Rattle.tk_io.specs.declared.sure.Absent.TheVariants.{Nothing};
-ghost use Rattle.tk_io.specs.Shelf.{Opens, Reads, dash};
+ghost use Rattle.tk_io.specs.Shelf.{Opens, Reads, standard_input};
 ghost use Rattle.tk_io.specs.Desk.{new_desk};
 ghost use Rattle.tk_io.specs.SureShelf.{sure_means, sure_open, OpensSure, ReadsSure};
 
@@ -94,7 +94,7 @@ impl Shelf for SureShelf {
 
 // What is open where the shelf doesn't have the name.
 fn absent_of(name: &str) -> Absent
-    ensures { result ≡ (if bytes_eq name.now dash then Absent.Input else Absent.Other) }
+    ensures { result ≡ (if bytes_eq name.now standard_input then Absent.Input else Absent.Other) }
 {
     if name == "-" {
         Absent::Input
