@@ -1,4 +1,4 @@
--- What was said, and the answers that it makes.
+-- What was said, and the ends that it makes.
 use Rattle.std.proofs.Common.{◌≡◌, inl, inr, ℕ, ◌<◌, List, length, take, Result, Ok, Err, sym, subst}
 use Rattle.tk_io.specs.Sink.{Sunk, Takes, WritesAll}
 use Rattle.tk_io.specs.declared.Failed.{Failed}
@@ -9,50 +9,53 @@ use Rattle.tikzsvg.specs.declared.program.Status.TheVariants as statuses
 use Rattle.tikzsvg.specs.Lines.{placed_line}
 use Rattle.tikzsvg.specs.Run.{World, Says, whole, part}
 use Rattle.tikzsvg.specs.Refused.{Refuses, IsDocumentOf}
-use Rattle.tikzsvg.specs.Answers.{Renders, done, fault, too_long, read_fault, write_fault, out_of_memory, Delivers, Reports, line_of_cause, status_of_cause}
+use Rattle.tikzsvg.specs.Endings.{Ends, done, fault, too_long, read_fault, write_fault, out_of_memory, Delivers, Reports, line_of_cause, status_of_cause}
 
 -- what writing a line says
 pub says_from : (line : List ℕ) (old new : Sunk) (r : Result (Unit {0}) Failed) → WritesAll line old new r → Says old new line
 says_from line old new (Ok u) w = whole w.whole
 says_from line old new (Err e) w = part w.part.0 w.part.1 w.part.2 w.cause
 
--- a document that was delivered
-pub delivered : (file : List ℕ) (before after : World) (document : List ℕ) (status : Status) → IsDocumentOf file before.shelf after.shelf document → Delivers document before.out after.out before.err after.err status → Renders file before after status
-delivered file before after document statuses.Done d w = done (record {
-  drawing = d.drawing;
-  drawn = d.drawn;
-  means = d.means;
-  written = subst (λ (bytes : List ℕ). Takes before.out after.out bytes) d.is w.0;
-  silent = w.1;
-})
-delivered file before after document statuses.WriteFault d w = write_fault (record {
-  drawing = d.drawing;
-  count = w.0.count;
-  drawn = d.drawn;
-  means = d.means;
-  less = subst (λ (bytes : List ℕ). w.0.count < length bytes) d.is w.0.less;
-  written = subst (λ (bytes : List ℕ). Takes before.out after.out (take w.0.count bytes)) d.is w.0.written;
-  cause = w.0.cause;
-  says = w.1;
-})
-delivered file before after document statuses.Fault d w = absurd w
-delivered file before after document statuses.Usage d w = absurd w
-delivered file before after document statuses.ReadFault d w = absurd w
-delivered file before after document statuses.OutOfMemory d w = absurd w
+module _ (file : List ℕ) (budget : ℕ) (before after : World) where
+  -- a document that was delivered
+  pub delivered : (document : List ℕ) (status : Status) → IsDocumentOf file budget before.shelf after.shelf document → Delivers document before.out after.out before.err after.err status → Ends file budget before after status
+  delivered document statuses.Done d w = done (record {
+    drawing = d.drawing;
+    drawn = d.drawn;
+    written = record {
+      written = subst (λ (bytes : List ℕ). Takes before.out after.out bytes) d.is w.0;
+      means = d.means;
+    };
+    silent = w.1;
+  })
+  delivered document statuses.WriteFault d w = write_fault (record {
+    drawing = d.drawing;
+    count = w.0.count;
+    drawn = d.drawn;
+    means = d.means;
+    less = subst (λ (bytes : List ℕ). w.0.count < length bytes) d.is w.0.less;
+    written = subst (λ (bytes : List ℕ). Takes before.out after.out (take w.0.count bytes)) d.is w.0.written;
+    cause = w.0.cause;
+    says = w.1;
+  })
+  delivered document statuses.Fault d w = absurd w
+  delivered document statuses.Usage d w = absurd w
+  delivered document statuses.ReadFault d w = absurd w
+  delivered document statuses.OutOfMemory d w = absurd w
 
--- a cause that was told
-told : (file : List ℕ) (before after : World) (cause : NoDocument) → after.out ≡ before.out → Refuses file before.shelf after.shelf cause → Says before.err after.err (line_of_cause file cause) → Renders file before after (status_of_cause cause)
-told file before after causes.ReadFault same r says = read_fault (record { cause = r; says = says; untouched = same })
-told file before after causes.TooLong same r says = too_long (record { long = r; says = says; untouched = same })
-told file before after (causes.Fault placed) same r says = fault (record {
-  source = r.source;
-  fault = r.fault;
-  broken = r.broken;
-  says = subst (λ p. Says before.err after.err (placed_line file p.line p.column p.code)) r.is says;
-  untouched = same;
-})
-told file before after causes.OutOfMemory same r says = out_of_memory (record { says = says; untouched = same })
+  -- a cause that was told
+  told : (cause : NoDocument) → after.out ≡ before.out → Refuses file budget before.shelf after.shelf cause → Says before.err after.err (line_of_cause file cause) → Ends file budget before after (status_of_cause cause)
+  told causes.ReadFault same r says = read_fault (record { cause = r; says = says; untouched = same })
+  told causes.TooLong same r says = too_long (record { long = r; says = says; untouched = same })
+  told (causes.Fault placed) same r says = fault (record {
+    source = r.source;
+    fault = r.fault;
+    broken = r.broken;
+    says = subst (λ p. Says before.err after.err (placed_line file p.line p.column p.code)) r.is says;
+    untouched = same;
+  })
+  told causes.OutOfMemory same r says = out_of_memory (record { says = says; untouched = same })
 
-pub reported : (file : List ℕ) (before after : World) (cause : NoDocument) (status : Status) → after.out ≡ before.out → Refuses file before.shelf after.shelf cause → Reports file cause before.err after.err status → Renders file before after status
-reported file before after cause status same r (inl t) = subst (λ s. Renders file before after s) (sym t.0) (told file before after cause same r t.1)
-reported file before after cause status same r (inr t) = subst (λ s. Renders file before after s) (sym t.0) (out_of_memory (record { says = t.1; untouched = same }))
+  pub reported : (cause : NoDocument) (status : Status) → after.out ≡ before.out → Refuses file budget before.shelf after.shelf cause → Reports file cause before.err after.err status → Ends file budget before after status
+  reported cause status same r (inl t) = subst (λ s. Ends file budget before after s) (sym t.0) (told cause same r t.1)
+  reported cause status same r (inr t) = subst (λ s. Ends file budget before after s) (sym t.0) (out_of_memory (record { says = t.1; untouched = same }))

@@ -1,6 +1,7 @@
 pub mod Words
+pub mod Commands
 pub mod Lines
 pub mod Run
 pub mod Refused
-pub mod Answers
+pub mod Endings
 pub mod HostWords

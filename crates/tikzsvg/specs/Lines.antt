@@ -6,26 +6,28 @@ use Rattle.tk_token.specs.declared.Code.TheVariants.{NotUtf8, BadChar, Brace, To
 use Rattle.tk_token.specs.Places.{line_of, column_of}
 
 -- the name of a fault
-abbrev pub name_of : Code → List ℕ
-name_of NotUtf8 = codes "NotUtf8"
-name_of BadChar = codes "BadChar"
-name_of Brace = codes "Brace"
-name_of TooDeep = codes "TooDeep"
-name_of TooLarge = codes "TooLarge"
-name_of DivZero = codes "DivZero"
-name_of Domain = codes "Domain"
-name_of Expression = codes "Expression"
-name_of MacroSyntax = codes "MacroSyntax"
-name_of MacroArg = codes "MacroArg"
-name_of Budget = codes "Budget"
-name_of Levels = codes "Levels"
-name_of Coordinate = codes "Coordinate"
-name_of TooLong = codes "TooLong"
-name_of Unbuilt = codes "Unbuilt"
+abbrev pub code_name : Code → List ℕ
+code_name NotUtf8 = codes "NotUtf8"
+code_name BadChar = codes "BadChar"
+code_name Brace = codes "Brace"
+code_name TooDeep = codes "TooDeep"
+code_name TooLarge = codes "TooLarge"
+code_name DivZero = codes "DivZero"
+code_name Domain = codes "Domain"
+code_name Expression = codes "Expression"
+code_name MacroSyntax = codes "MacroSyntax"
+code_name MacroArg = codes "MacroArg"
+code_name Budget = codes "Budget"
+code_name Levels = codes "Levels"
+code_name Coordinate = codes "Coordinate"
+code_name TooLong = codes "TooLong"
+code_name Unbuilt = codes "Unbuilt"
 
 -- `FILE:LINE:COLUMN: FAULT`
 unfoldable pub placed_line : List ℕ → ℕ → ℕ → Code → List ℕ
-placed_line file line column code = file ++ codes ":" ++ decimal line ++ codes ":" ++ decimal column ++ codes ": " ++ name_of code ++ codes "\n"
+placed_line file line column code =
+    file ++ codes ":" ++ decimal line ++ codes ":" ++ decimal column
+    ++ codes ": " ++ code_name code ++ codes "\n"
 
 -- the line of a fault of that source
 abbrev pub fault_line : List ℕ → List ℕ → Fault → List ℕ

@@ -1,23 +1,21 @@
--- What each status of the program means.
-use Rattle.std.specs.Prelude.{◌≡◌, ◌≢◌, ◌↔◌, ◌⊎◌, ℕ, ◌+◌, ◌<◌, ◌≤◌, List, [], length, take, Option, Some, None, IfSome, Ok, Err, unwrap_or}
+-- What each status of the program means. `command_of` (Words) gives `render FILE` a budget of
+-- 10,000,000 units.
+use Rattle.std.specs.Prelude.{◌≡◌, ◌≢◌, ◌⊎◌, ℕ, ◌+◌, ◌<◌, ◌≤◌, List, [], length, take, drop, Option, Some, None, IfSome, Ok, Err, unwrap_or}
 use Rattle.tk_token.specs.declared.Fault.{Fault}
 use Rattle.tk_token.specs.Answers.{Answer}
 use Rattle.tk_item.specs.declared.Drawing.{Drawing}
-use Rattle.tk_io.specs.declared.reading.TheConstants.{MOST_BYTES}
 use Rattle.tk_io.specs.Causes.{Rose}
-use Rattle.tk_io.specs.Shelf.{Shelved, Counts}
+use Rattle.tk_io.specs.Shelf.{Shelved, Counts, Leaves, LeavesOfInput, standard_input}
 use Rattle.tk_io.specs.Sink.{Sunk, Takes}
 use Rattle.tk_svg.specs.Document.{IsDocument}
 use Rattle.tk_svgwrite.specs.Plain.{document_text}
 use Rattle.tk_picture.specs.Outcome.{IsOutcome}
-use Rattle.tikzsvg.specs.declared.document.TheConstants.{BUDGET}
-use Rattle.tikzsvg.specs.Words.{Render, command_of}
+use Rattle.tikzsvg.specs.Words.{Command, Render}
 use Rattle.tikzsvg.specs.Lines.{fault_line, too_long_line, read_fault_line, usage_line, write_fault_line, out_of_memory_line}
 
--- what a source comes to with the program's budget: a drawing, or its first fault
-abbrev pub ComesTo : List ℕ → Answer Drawing → Type 0
-ComesTo source (Ok drawing) = (units : ℕ) × IsOutcome BUDGET source (Ok (record { drawing = drawing; units = units }))
-ComesTo source (Err fault) = IsOutcome BUDGET source (Err fault)
+-- the most bytes of a source: 16 MiB
+abbrev pub most_bytes : ℕ
+most_bytes = 16777216
 
 -- what the shelf and the two sinks mean at a moment
 pub record World : Type 0 where
@@ -29,61 +27,89 @@ pub record World : Type 0 where
 abbrev pub world : Shelved → Sunk → Sunk → World
 world shelf out err = record { shelf = shelf; out = out; err = err }
 
+-- ---- what a source means
+
+-- what a source comes to with a budget: a drawing, or its first fault
+abbrev pub ComesTo : ℕ → List ℕ → Answer Drawing → Type 0
+ComesTo budget source (Ok drawing) =
+    (units : ℕ) × IsOutcome budget source (Ok (record { drawing = drawing; units = units }))
+ComesTo budget source (Err fault) = IsOutcome budget source (Err fault)
+
+-- the bytes are a document for this drawing, and for no other
+pub record ReadsBackAs (document : List ℕ) (drawing : Drawing) : Type 0 where
+  pub is : IsDocument document drawing
+  pub only : (other : Drawing) → IsDocument document other → other ≡ drawing
+
 -- ---- the file
 
--- the shelf tells its bytes, and these are what it holds under the file
-pub record Holds (shelf : Shelved) (file source : List ℕ) : Type 0 where
-  pub holds : List ℕ → Option (List ℕ)
-  pub told : shelf.holds ≡ Some holds
-  pub is : source ≡ unwrap_or (holds file) []
-
--- the file was read to its end, and this is what it gave: all that the shelf holds under it, where the shelf tells that
+-- the file was read to its end, and this is what it gave: all that the shelf holds under it, where
+-- the shelf tells that; of standard input nothing is left then
 pub record WasRead (file source : List ℕ) (before after : Shelved) : Type 0 where
   pub is_source : IfSome before.holds (λ holds. source ≡ unwrap_or (holds file) [])
-  pub short : length source ≤ MOST_BYTES
+  pub short : length source ≤ most_bytes
   pub taken : after.taken ≡ length source
   pub ended : IfSome before.holds (λ _. after.left ≡ Some [])
+  pub emptied : file ≡ standard_input → LeavesOfInput (λ _. []) before after
 
--- the file gave one byte more than an input may have, and holds that many where the shelf tells that
+-- the file gave one byte more than a source may have, and holds that many where the shelf tells
+-- that; of standard input the rest is left then
 pub record WasTooLong (file : List ℕ) (before after : Shelved) : Type 0 where
-  pub taken : after.taken ≡ MOST_BYTES + 1
-  pub long : IfSome before.holds (λ holds. MOST_BYTES < length (unwrap_or (holds file) []))
+  pub taken : after.taken ≡ most_bytes + 1
+  pub long : IfSome before.holds (λ holds. most_bytes < length (unwrap_or (holds file) []))
+  pub input : file ≡ standard_input → LeavesOfInput (drop (most_bytes + 1)) before after
 
 -- the file was read, and draws this
-pub record Draws (file : List ℕ) (before after : Shelved) (drawing : Drawing) : Type 0 where
+pub record Draws
+    (file : List ℕ) (budget : ℕ) (before after : Shelved) (drawing : Drawing) : Type 0 where
   pub source : List ℕ
   pub read : WasRead file source before after
-  pub is : ComesTo source (Ok drawing)
+  pub is : ComesTo budget source (Ok drawing)
 
 -- the file was read, and has this fault
-pub record Breaks (file source : List ℕ) (before after : Shelved) (fault : Fault) : Type 0 where
+pub record Breaks
+    (file source : List ℕ) (budget : ℕ) (before after : Shelved) (fault : Fault) : Type 0 where
   pub read : WasRead file source before after
-  pub is : ComesTo source (Err fault)
+  pub is : ComesTo budget source (Err fault)
+
+-- no other file is touched: where the shelf tells its bytes it holds what it held, but of standard
+-- input, if that is the file, the rest, and the counts of its other files stay
+pub record UsesOne (file : List ℕ) (before after : Shelved) : Type 0 where
+  pub counts : Counts file before after
+  pub leaves : Leaves file before after
 
 -- ---- the statuses
 
 -- a line was written, or a proper part of it where the sink failed
 pub data Says (old new : Sunk) (line : List ℕ) : Type 0 where
   whole : Takes old new line → Says old new line
-  part : (n : ℕ) → n < length line → Takes old new (take n line) → Rose old.faults new.faults → Says old new line
+  part :
+      (n : ℕ)
+      → n < length line
+      → Takes old new (take n line)
+      → Rose old.faults new.faults
+      → Says old new line
+
+-- a document was written, which reads back as this drawing and no other
+pub record WritesDocument (drawing : Drawing) (old new : Sunk) : Type 0 where
+  pub written : Takes old new (document_text drawing)
+  pub means : ReadsBackAs (document_text drawing) drawing
 
 -- status 0: `out` took the document of the file's drawing, and `err` nothing
-pub record Done (file : List ℕ) (before after : World) : Type 0 where
+pub record Done (file : List ℕ) (budget : ℕ) (before after : World) : Type 0 where
   pub drawing : Drawing
-  pub drawn : Draws file before.shelf after.shelf drawing
-  pub means : IsDocument (document_text drawing) drawing
-  pub written : Takes before.out after.out (document_text drawing)
+  pub drawn : Draws file budget before.shelf after.shelf drawing
+  pub written : WritesDocument drawing before.out after.out
   pub silent : after.err ≡ before.err
 
 -- status 1: `err` took the line of the file's fault
-pub record HasFault (file : List ℕ) (before after : World) : Type 0 where
+pub record HasFault (file : List ℕ) (budget : ℕ) (before after : World) : Type 0 where
   pub source : List ℕ
   pub fault : Fault
-  pub broken : Breaks file source before.shelf after.shelf fault
+  pub broken : Breaks file source budget before.shelf after.shelf fault
   pub says : Says before.err after.err (fault_line file source fault)
   pub untouched : after.out ≡ before.out
 
--- status 1: the file has more bytes than an input may have
+-- status 1: the file has more bytes than a source may have
 pub record IsTooLong (file : List ℕ) (before after : World) : Type 0 where
   pub long : WasTooLong file before.shelf after.shelf
   pub says : Says before.err after.err (too_long_line file)
@@ -102,11 +128,11 @@ pub record ReadFails (file : List ℕ) (before after : World) : Type 0 where
   pub untouched : after.out ≡ before.out
 
 -- status 4: `out` failed, and took a proper part of the document that status 0 would have written
-pub record WriteFails (file : List ℕ) (before after : World) : Type 0 where
+pub record WriteFails (file : List ℕ) (budget : ℕ) (before after : World) : Type 0 where
   pub drawing : Drawing
   pub count : ℕ
-  pub drawn : Draws file before.shelf after.shelf drawing
-  pub means : IsDocument (document_text drawing) drawing
+  pub drawn : Draws file budget before.shelf after.shelf drawing
+  pub means : ReadsBackAs (document_text drawing) drawing
   pub less : count < length (document_text drawing)
   pub written : Takes before.out after.out (take count (document_text drawing))
   pub cause : Rose before.out.faults after.out.faults
@@ -117,56 +143,68 @@ pub record LacksMemory (before after : World) : Type 0 where
   pub says : Says before.err after.err out_of_memory_line
   pub untouched : after.out ≡ before.out
 
--- the words ask for the document of a file, of which P holds
-pub record Asks (words : List (List ℕ)) (P : List ℕ → Type 0) : Type 0 where
-  pub file : List ℕ
-  pub asked : command_of words ≡ Some (Render file)
-  pub holds : P file
-
--- ---- what comes where the shelf tells its bytes and didn't fail at the file
+-- ---- which status comes
 
 -- no call failed, by their count
 abbrev pub DidNotFail : ℕ → ℕ → Type 0
 DidNotFail before after = Rose before after → ⊥
 
--- the document of a drawing is written, which reads back as that drawing, unless `out` fails or memory runs out
-abbrev pub Completes : List (List ℕ) → World → World → ℕ → Type 0
-Completes words before after status =
-    (file source : List ℕ) (drawing : Drawing) → command_of words ≡ Some (Render file) → Holds before.shelf file source → length source ≤ MOST_BYTES → ComesTo source (Ok drawing)
-    → DidNotFail (before.shelf.faults file) (after.shelf.faults file) → DidNotFail before.out.faults after.out.faults
-    → ((status ≡ 0) × Takes before.out after.out (document_text drawing) × IsDocument (document_text drawing) drawing) ⊎ (status ≡ 5)
+-- the shelf tells its bytes, these are what it holds under the file, and it didn't fail at it
+pub record IsTold (file source : List ℕ) (before after : Shelved) : Type 0 where
+  pub holds : List ℕ → Option (List ℕ)
+  pub told : before.holds ≡ Some holds
+  pub is : source ≡ unwrap_or (holds file) []
+  pub sound : DidNotFail (before.faults file) (after.faults file)
+
+-- the document of a drawing is written, unless `out` fails or memory runs out
+abbrev pub Completes : List ℕ → ℕ → World → World → ℕ → Type 0
+Completes file budget before after status =
+    (source : List ℕ) (drawing : Drawing)
+    → IsTold file source before.shelf after.shelf
+    → length source ≤ most_bytes
+    → ComesTo budget source (Ok drawing)
+    → DidNotFail before.out.faults after.out.faults
+    → ((status ≡ 0) × WritesDocument drawing before.out after.out) ⊎ (status ≡ 5)
 
 -- a fault is named, unless memory runs out
-abbrev pub NamesFault : List (List ℕ) → World → World → ℕ → Type 0
-NamesFault words before after status =
-    (file source : List ℕ) (fault : Fault) → command_of words ≡ Some (Render file) → Holds before.shelf file source → length source ≤ MOST_BYTES → ComesTo source (Err fault)
-    → DidNotFail (before.shelf.faults file) (after.shelf.faults file)
+abbrev pub NamesFault : List ℕ → ℕ → World → World → ℕ → Type 0
+NamesFault file budget before after status =
+    (source : List ℕ) (fault : Fault)
+    → IsTold file source before.shelf after.shelf
+    → length source ≤ most_bytes
+    → ComesTo budget source (Err fault)
     → ((status ≡ 1) × Says before.err after.err (fault_line file source fault)) ⊎ (status ≡ 5)
 
 -- a longer file is refused, unless memory runs out
-abbrev pub RefusesLong : List (List ℕ) → World → World → ℕ → Type 0
-RefusesLong words before after status =
-    (file source : List ℕ) → command_of words ≡ Some (Render file) → Holds before.shelf file source → MOST_BYTES < length source
-    → DidNotFail (before.shelf.faults file) (after.shelf.faults file)
+abbrev pub RefusesLong : List ℕ → World → World → ℕ → Type 0
+RefusesLong file before after status =
+    (source : List ℕ)
+    → IsTold file source before.shelf after.shelf
+    → most_bytes < length source
     → ((status ≡ 1) × Says before.err after.err (too_long_line file)) ⊎ (status ≡ 5)
 
 -- ---- a run
 
--- the status that a run answers, and what it did
-pub record Runs (words : List (List ℕ)) (before after : World) (status : ℕ) : Type 0 where
-  pub known : status ≤ 5
+-- the status that `render` of a file answers, and what it did
+pub record Renders
+    (file : List ℕ) (budget : ℕ) (before after : World) (status : ℕ) : Type 0 where
   -- what each status means
-  pub done : status ≡ 0 → Asks words (λ file. Done file before after)
-  pub refused : status ≡ 1 → Asks words (λ file. HasFault file before after ⊎ IsTooLong file before after)
-  pub usage : (status ≡ 2) ↔ (command_of words ≡ None)
-  pub usage_line : status ≡ 2 → IsUsage before after
-  pub read : status ≡ 3 → Asks words (λ file. ReadFails file before after)
-  pub write : status ≡ 4 → Asks words (λ file. WriteFails file before after)
-  pub memory : status ≡ 5 → Asks words (λ _. LacksMemory before after)
+  pub known : status ≤ 5
+  pub done : status ≡ 0 → Done file budget before after
+  pub refused : status ≡ 1 → HasFault file budget before after ⊎ IsTooLong file before after
+  pub asked : status ≢ 2
+  pub read : status ≡ 3 → ReadFails file before after
+  pub write : status ≡ 4 → WriteFails file budget before after
+  pub memory : status ≡ 5 → LacksMemory before after
   pub untouched : status ≢ 0 → status ≢ 4 → after.out ≡ before.out
   -- which status comes
-  pub completes : Completes words before after status
-  pub names_fault : NamesFault words before after status
-  pub refuses_long : RefusesLong words before after status
-  -- no count of the shelf falls, and where it tells its bytes those of its other files stay
-  pub one_file : (file : List ℕ) → command_of words ≡ Some (Render file) → Counts file before.shelf after.shelf
+  pub completes : Completes file budget before after status
+  pub names_fault : NamesFault file budget before after status
+  pub refuses_long : RefusesLong file before after status
+  -- whatever the status
+  pub one_file : UsesOne file before.shelf after.shelf
+
+-- the status that a run answers, and what it did: status 2 comes exactly where nothing is asked for
+abbrev pub Runs : Option Command → World → World → ℕ → Type 0
+Runs None before after status = (status ≡ 2) × IsUsage before after
+Runs (Some (Render file budget)) before after status = Renders file budget before after status

@@ -4,16 +4,24 @@ use Rattle.std.specs.Str.{bytes_eq}
 
 -- what is asked for
 pub data Command : Type 0 where
-  -- the SVG document of a file
-  Render : List ℕ → Command
+  -- the SVG document of a file, with so many units to pay for its macros
+  Render : (file : List ℕ) (budget : ℕ) → Command
 
--- a name of a file: not empty, and with a `-` in front only where it is `-` alone, which is standard input
+-- the code of `-`
+abbrev pub hyphen : ℕ
+hyphen = 45
+
+-- a name of a file: not empty, and with a `-` in front only where it is `-` alone, which is
+-- standard input
 abbrev pub is_file_name : List ℕ → Bool
 is_file_name [] = false
 is_file_name (c ∷ []) = true
-is_file_name (c ∷ d ∷ cs) = not (c == 45)
+is_file_name (c ∷ d ∷ cs) = not (c == hyphen)
 
--- `render FILE` asks for a document; all other words are faulty
+-- `render FILE` asks for a document, with a budget of 10,000,000 units; all other words are faulty
 unfoldable pub command_of : List (List ℕ) → Option Command
-command_of (word ∷ file ∷ []) = if bytes_eq word (codes "render") && is_file_name file then Some (Render file) else None
+command_of (word ∷ file ∷ []) =
+    if bytes_eq word (codes "render") && is_file_name file
+    then Some (Render file 10000000)
+    else None
 command_of _ = None

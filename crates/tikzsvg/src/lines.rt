@@ -15,7 +15,7 @@ pub struct Placed {
 }
 
 fn code_name(code: Code) -> &'static str
-    ensures { result.now ≡ text.name_of code }
+    ensures { result.now ≡ text.code_name code }
 {
     match code {
         Code::NotUtf8 => "NotUtf8",
@@ -39,7 +39,8 @@ fn code_name(code: Code) -> &'static str
 /// `FILE:LINE:COLUMN: FAULT`, ended by LF.
 #[tactic(auto, using(std::proofs::Common::append_assoc), unfolding(crate::specs::Lines::placed_line))]
 pub fn fault_line(alloc: Global, file: &str, fault: Placed) -> Result<String, AllocError>
-    ensures { IfOk result (λ line. string_bytes line ≡ text.placed_line file.now fault.line fault.column fault.code) }
+    ensures { IfOk result (λ line.
+        string_bytes line ≡ text.placed_line file.now fault.line fault.column fault.code) }
 {
     let Placed { code, line, column } = fault;
     let name = code_name(code);

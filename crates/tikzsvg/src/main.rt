@@ -1,7 +1,7 @@
 //! tikzsvg: compiles TikZ pictures to SVG documents.
 //!
-//! [`program::run`] is the whole program over any shelf of files and any two sinks. What stands here
-//! hands it those of the host.
+//! [`program::run`] is the whole program over any shelf of files and any two sinks. What stands
+//! here hands it those of the host.
 #![tactic(auto)]
 
 mod document;
@@ -12,13 +12,14 @@ mod rows;
 mod words;
 
 use program::{run, without_words};
+use std::env;
 use std::process::ExitCode;
 use tk_io::{ErrSink, FileShelf, OutSink};
-use words::host_words;
+use words::own_words;
 
 fn main(rt: HostRuntime) -> ExitCode {
     let mut err = ErrSink::new(rt.stderr());
-    let status = match host_words(&rt) {
+    let status = match own_words(rt.alloc(), env::args(&rt)) {
         Ok(words) => {
             let mut shelf = FileShelf::new(&rt);
             let mut out = OutSink::new(&rt);

@@ -1,17 +1,18 @@
 //! The whole program over any shelf and any sinks.
 
-ghost use Rattle.std.specs.Prelude.{◌≡◌, ℕ, List, Some, IfOk, map, string_bytes};
-ghost use Rattle.tk_io.specs.Shelf.{Counts};
-ghost use Rattle.tikzsvg.specs.Words.{Render, command_of};
+ghost use Rattle.std.specs.Prelude.{◌≡◌, ◌≤◌, IfOk, map, string_bytes};
+ghost use Rattle.tikzsvg.specs.Commands.{asked_by, IsWithinBudgets};
+ghost use Rattle.tikzsvg.specs.Words.{command_of as asked};
 ghost use Rattle.tikzsvg.specs.Lines.{usage_line, out_of_memory_line};
-ghost use Rattle.tikzsvg.specs.Run.{world, Runs, Says};
-ghost use Rattle.tikzsvg.specs.Answers.{Answers, Renders, Delivers, Reports, line_of_cause, status_of_cause};
+ghost use Rattle.tikzsvg.specs.Run.{world, Runs, Says, UsesOne};
+ghost use Rattle.tikzsvg.specs.Endings.{Ends, EndsAsAsked, Delivers, Reports, line_of_cause, status_of_cause};
 
 use crate::document::{NoDocument, document_of};
 use crate::lines::{Placed, fault_line, read_fault_line};
-use crate::words::{NoWords, file_to_render};
+use crate::words::{Command, NoWords, command_of};
 use std::alloc::{AllocError, Global};
 use tk_io::{Shelf, Sink, write_all};
+use tk_picture::a_source_has_one_outcome;
 use tk_token::Code;
 
 const USAGE: &[u8] = b"tikzsvg: Usage\n";
@@ -40,8 +41,8 @@ pub enum Status {
 /// Runs the program: does what the words ask for, and answers the status of the process.
 ///
 /// `words` are those of the command line without the program's own name. `render FILE` writes the
-/// SVG document of a file's drawing to `out`; the file `-` is standard input. What went wrong is said
-/// in one line to `err`:
+/// SVG document of a file's drawing to `out`; the file `-` is standard input. What went wrong is
+/// said in one line to `err`:
 ///
 /// | status | line | when |
 /// |---|---|---|
@@ -61,15 +62,22 @@ pub fn run<H: Shelf, O: Sink, E: Sink>(
     out: &mut O,
     err: &mut E,
 ) -> u8
-    ensures { Runs (map string_bytes words.now) (world (H.meaning shelf.old) (O.meaning out.old) (E.meaning err.old)) (world (H.meaning shelf.new) (O.meaning out.new) (E.meaning err.new)) result }
+    ensures { Runs (asked (map string_bytes words.now))
+        (world (H.meaning shelf.old) (O.meaning out.old) (E.meaning err.old))
+        (world (H.meaning shelf.new) (O.meaning out.new) (E.meaning err.new))
+        result }
 {
+    // A law, for the proof: there is one status for what a source comes to.
+    a_source_has_one_outcome();
     answer(alloc, words, shelf, out, err) as u8
 }
 
 /// Ends a program whose words the host refused, and answers its status.
 pub fn without_words<E: Sink>(cause: NoWords, err: &mut E) -> u8
-    ensures usage { cause ≡ NoWords.Unreadable → (result ≡ 2) × Says (E.meaning err.old) (E.meaning err.new) usage_line }
-    ensures memory { cause ≡ NoWords.OutOfMemory → (result ≡ 5) × Says (E.meaning err.old) (E.meaning err.new) out_of_memory_line }
+    ensures usage { cause ≡ NoWords.Unreadable
+        → (result ≡ 2) × Says (E.meaning err.old) (E.meaning err.new) usage_line }
+    ensures memory { cause ≡ NoWords.OutOfMemory
+        → (result ≡ 5) × Says (E.meaning err.old) (E.meaning err.new) out_of_memory_line }
 {
     match cause {
         NoWords::OutOfMemory => {
@@ -91,11 +99,13 @@ fn answer<H: Shelf, O: Sink, E: Sink>(
     out: &mut O,
     err: &mut E,
 ) -> Status
-    ensures status { Answers (map string_bytes words.now) (world (H.meaning shelf.old) (O.meaning out.old) (E.meaning err.old)) (world (H.meaning shelf.new) (O.meaning out.new) (E.meaning err.new)) result }
-    ensures one_file { (file : List ℕ) → command_of (map string_bytes words.now) ≡ Some (Render file) → Counts file (H.meaning shelf.old) (H.meaning shelf.new) }
+    ensures { EndsAsAsked (asked (map string_bytes words.now))
+        (world (H.meaning shelf.old) (O.meaning out.old) (E.meaning err.old))
+        (world (H.meaning shelf.new) (O.meaning out.new) (E.meaning err.new))
+        result }
 {
-    match file_to_render(words) {
-        Some(file) => render(alloc, file, shelf, out, err),
+    match command_of(words) {
+        Some(command) => obey(alloc, command, shelf, out, err),
         None => {
             say(err, USAGE);
             Status::Usage
@@ -103,18 +113,42 @@ fn answer<H: Shelf, O: Sink, E: Sink>(
     }
 }
 
-/// Writes the document of a file.
-fn render<H: Shelf, O: Sink, E: Sink>(
+/// Does what a command asks for.
+fn obey<H: Shelf, O: Sink, E: Sink>(
     alloc: Global,
-    file: &str,
+    command: Command<'_>,
     shelf: &mut H,
     out: &mut O,
     err: &mut E,
 ) -> Status
-    ensures status { Renders file.now (world (H.meaning shelf.old) (O.meaning out.old) (E.meaning err.old)) (world (H.meaning shelf.new) (O.meaning out.new) (E.meaning err.new)) result }
-    ensures counts { Counts file.now (H.meaning shelf.old) (H.meaning shelf.new) }
+    requires { IsWithinBudgets command }
+    ensures { EndsAsAsked (Some (asked_by command.entry))
+        (world (H.meaning shelf.old) (O.meaning out.old) (E.meaning err.old))
+        (world (H.meaning shelf.new) (O.meaning out.new) (E.meaning err.new))
+        result }
 {
-    match document_of(alloc, shelf, file) {
+    match command {
+        Command::Render { file, budget } => render(alloc, file, budget, shelf, out, err),
+    }
+}
+
+/// Writes the document of a file.
+fn render<H: Shelf, O: Sink, E: Sink>(
+    alloc: Global,
+    file: &str,
+    budget: u64,
+    shelf: &mut H,
+    out: &mut O,
+    err: &mut E,
+) -> Status
+    requires few { budget ≤ 20000000 }
+    ensures status { Ends file.now budget
+        (world (H.meaning shelf.old) (O.meaning out.old) (E.meaning err.old))
+        (world (H.meaning shelf.new) (O.meaning out.new) (E.meaning err.new))
+        result }
+    ensures shelf { UsesOne file.now (H.meaning shelf.old) (H.meaning shelf.new) }
+{
+    match document_of(alloc, shelf, file, budget) {
         Ok(document) => deliver(document.as_slice(), out, err),
         Err(cause) => report(alloc, file, cause, err),
     }
@@ -122,7 +156,10 @@ fn render<H: Shelf, O: Sink, E: Sink>(
 
 /// Writes a document, and says so where `out` fails.
 fn deliver<O: Sink, E: Sink>(document: &[u8], out: &mut O, err: &mut E) -> Status
-    ensures { Delivers document.now (O.meaning out.old) (O.meaning out.new) (E.meaning err.old) (E.meaning err.new) result }
+    ensures { Delivers document.now
+        (O.meaning out.old) (O.meaning out.new)
+        (E.meaning err.old) (E.meaning err.new)
+        result }
 {
     match write_all(out, document) {
         Ok(()) => Status::Done,

@@ -1,14 +1,27 @@
 //! The words of the command line.
 
-ghost use Rattle.std.specs.Prelude.{◌≡◌, ◌&&◌, codes, map, option_map, string_bytes};
+ghost use Rattle.std.specs.Prelude.{◌≡◌, ◌&&◌, codes, map, option_map, string_bytes, IfOk, IfErr, IfSome, IsErrAnd};
+ghost use Rattle.std.specs.IoError.{error_kind};
 ghost use Rattle.std.specs.Str.{bytes_eq};
-ghost use Rattle.tikzsvg.specs.Words.{Render, is_file_name as is_name, command_of};
+ghost use Rattle.tikzsvg.specs.Commands.{asked_by, IsWithinBudgets};
+ghost use Rattle.tikzsvg.specs.HostWords.{IsCauseOf};
+ghost use Rattle.tikzsvg.specs.Words.{is_file_name as is_name, command_of as asked};
 ghost use Rattle.tikzsvg.specs.declared.words.NoWords.TheVariants.{OutOfMemory};
 
-use std::alloc::AllocError;
-use std::env::Env;
+use std::alloc::{AllocError, Global};
+use std::env::Args;
+use std::io;
 use std::io::ErrorKind;
-use std::{env, io};
+
+/// How many units `render FILE` may pay for the expansion of macros.
+const BUDGET: u64 = 10_000_000;
+
+/// What the words ask for.
+#[derive(Clone, Copy, Debug)]
+pub enum Command<'a> {
+    /// The SVG document of a file, with so many units to pay for its macros.
+    Render { file: &'a str, budget: u64 },
+}
 
 /// Why the host gave no words.
 #[derive(Clone, Copy, Debug, PartialEq, Eq)]
@@ -41,23 +54,30 @@ impl From<io::Error> for NoWords {
     }
 }
 
-/// The words of the command line, without the program's own name.
-pub fn host_words<R: Env + AllocGlobal>(rt: &R) -> Result<Vec<String>, NoWords> {
-    let words = env::args(rt)?;
-    Ok(words.skip(1).collect(rt.alloc())?)
+/// The words that the host told, without the first, which is the program's own name.
+pub fn own_words(alloc: Global, told: io::Result<Args>) -> Result<Vec<String>, NoWords>
+    ensures memory { IfOk told (λ _. IfErr result (λ cause. cause ≡ NoWords.OutOfMemory)) }
+    ensures cause { IfErr told (λ error. IsErrAnd result (IsCauseOf (error_kind error))) }
+{
+    match told {
+        Ok(all) => Ok(all.skip(1).collect(alloc)?),
+        Err(error) => Err(NoWords::from(error)),
+    }
 }
 
-/// The file of the words `render FILE`, which don't have the program's own name in front. No other
-/// words ask for anything.
-pub fn file_to_render(words: &[String]) -> Option<&str>
-    ensures { option_map (λ file. Render file.now) result ≡ command_of (map string_bytes words.now) }
+/// What the words ask for, which don't have the program's own name in front: `render FILE` asks for
+/// a document. No other words ask for anything.
+pub fn command_of(words: &[String]) -> Option<Command<'_>>
+    ensures command { option_map asked_by result ≡ asked (map string_bytes words.now) }
+    ensures budget { IfSome result IsWithinBudgets }
 {
     if words.len() != 2 {
         return None;
     }
     let (word, file) = (words[0].as_str(), words[1].as_str());
     if is_render(word, file) {
-        Some(file)
+        let budget = BUDGET;
+        Some(Command::Render { file, budget })
     } else {
         None
     }

@@ -9,8 +9,8 @@ use Rattle.std.proofs.lemmas.List.Quantifiers.{position-Some}
 use Rattle.std.proofs.lemmas.List.Recursion.{is_position_or_len}
 use Rattle.std.proofs.lemmas.Slice.Eq.{bytes_eq-Decides}
 use Rattle.std.proofs.lemmas.Bool.{false≢true}
-use Rattle.tk_io.specs.Shelf.{dash}
-use Rattle.tk_io.specs.Desk.{OnDesk, IsDesk, file_at, place_of}
+use Rattle.tk_io.specs.Shelf.{standard_input}
+use Rattle.tk_io.specs.Desk.{OnDesk, IsDesk, file_at, find_file}
 
 -- the first place that passes, in a list and in what is shown of it
 pub position-map : {X Y : Type 0} (p : Y → Bool) (f : X → Y) (xs : List X) → position p (map f xs) ≡ position (λ x. p (f x)) xs
@@ -23,36 +23,36 @@ position-map {X} {Y} p f xs =
     by_test false n = refl
 
 -- the first file of its name is there
-pub in_place : (desk : OnDesk) (place : ℕ) (name : List ℕ) → place_of desk name ≡ Some place → place < length desk.files
+pub in_place : (desk : OnDesk) (place : ℕ) (name : List ℕ) → find_file desk name ≡ Some place → place < length desk.files
 in_place desk place name h = (position-Some (λ file. bytes_eq file.0 name) desk.files place ([], []) h).0
 
 -- and it has that name
-pub named : (desk : OnDesk) (place : ℕ) (name : List ℕ) → place_of desk name ≡ Some place → (file_at desk place).0 ≡ name
+pub named : (desk : OnDesk) (place : ℕ) (name : List ℕ) → find_file desk name ≡ Some place → (file_at desk place).0 ≡ name
 named desk place name h = (bytes_eq-Decides (file_at desk place).0 name).0 (position-Some (λ file. bytes_eq file.0 name) desk.files place ([], []) h).1
 
 -- a test of a name that came out
-tested : (name : List ℕ) (b : Bool) → bytes_eq name dash ≡ b → Decides b (name ≡ dash)
-tested name b e = subst (λ (b : Bool). Decides b (name ≡ dash)) e (bytes_eq-Decides name dash)
+tested : (name : List ℕ) (b : Bool) → bytes_eq name standard_input ≡ b → Decides b (name ≡ standard_input)
+tested name b e = subst (λ (b : Bool). Decides b (name ≡ standard_input)) e (bytes_eq-Decides name standard_input)
 
 -- a desk keeps its rule where a file is opened
-pub IsDesk-opened : (desk : OnDesk) (place taken : ℕ) (b : Bool) → IsDesk desk → place_of desk (file_at desk place).0 ≡ Some place → bytes_eq (file_at desk place).0 dash ≡ b → IsDesk (record desk { current = Some place; at = if b then desk.input else 0; taken = taken })
+pub IsDesk-opened : (desk : OnDesk) (place taken : ℕ) (b : Bool) → IsDesk desk → find_file desk (file_at desk place).0 ≡ Some place → bytes_eq (file_at desk place).0 standard_input ≡ b → IsDesk (record desk { current = Some place; at = if b then desk.input else 0; taken = taken })
 IsDesk-opened desk place taken b is here e = record {
-  first = λ p same. let at_p : place ≡ p = cc in subst (λ (p : ℕ). place_of desk (file_at desk p).0 ≡ Some p) at_p here;
+  first = λ p same. let at_p : place ≡ p = cc in subst (λ (p : ℕ). find_file desk (file_at desk p).0 ≡ Some p) at_p here;
   within = λ p same. let at_p : place ≡ p = cc in subst (λ (p : ℕ). (if b then desk.input else 0) ≤ length (file_at desk p).1) at_p (within b (tested (file_at desk place).0 b e));
   input = λ p same name. let at_p : place ≡ p = cc in input b (tested (file_at desk place).0 b e) (ap (λ (p : ℕ). (file_at desk p).0) at_p ∙ name);
   input_within = is.input_within;
 }
   where
-    within : (b : Bool) → Decides b ((file_at desk place).0 ≡ dash) → (if b then desk.input else 0) ≤ length (file_at desk place).1
-    within true d = is.input_within place (ap (place_of desk) (sym (d.0 refl)) ∙ here)
+    within : (b : Bool) → Decides b ((file_at desk place).0 ≡ standard_input) → (if b then desk.input else 0) ≤ length (file_at desk place).1
+    within true d = is.input_within place (ap (find_file desk) (sym (d.0 refl)) ∙ here)
     within false d = omega arith
 
-    input : (b : Bool) → Decides b ((file_at desk place).0 ≡ dash) → (file_at desk place).0 ≡ dash → (if b then desk.input else 0) ≡ desk.input
+    input : (b : Bool) → Decides b ((file_at desk place).0 ≡ standard_input) → (file_at desk place).0 ≡ standard_input → (if b then desk.input else 0) ≡ desk.input
     input true d name = refl
     input false d name = absurd (false≢true (d.1 name))
 
 -- a desk keeps its rule where bytes are handed out
-pub IsDesk-moved : (desk : OnDesk) (place n taken : ℕ) (b : Bool) → IsDesk desk → desk.current ≡ Some place → bytes_eq (file_at desk place).0 dash ≡ b → n ≤ length (file_at desk place).1 - desk.at → IsDesk (record desk { at = desk.at + n; input = if b then desk.at + n else desk.input; taken = taken })
+pub IsDesk-moved : (desk : OnDesk) (place n taken : ℕ) (b : Bool) → IsDesk desk → desk.current ≡ Some place → bytes_eq (file_at desk place).0 standard_input ≡ b → n ≤ length (file_at desk place).1 - desk.at → IsDesk (record desk { at = desk.at + n; input = if b then desk.at + n else desk.input; taken = taken })
 IsDesk-moved desk place n taken b is here e fits = record {
   first = is.first;
   within = λ p same. let at_p : place ≡ p = cc in subst (λ (p : ℕ). desk.at + n ≤ length (file_at desk p).1) at_p (omega (arith, fits, is.within place here));
@@ -60,13 +60,13 @@ IsDesk-moved desk place n taken b is here e fits = record {
   input_within = input_within b (tested (file_at desk place).0 b e);
 }
   where
-    input : (b : Bool) → Decides b ((file_at desk place).0 ≡ dash) → (file_at desk place).0 ≡ dash → desk.at + n ≡ (if b then desk.at + n else desk.input)
+    input : (b : Bool) → Decides b ((file_at desk place).0 ≡ standard_input) → (file_at desk place).0 ≡ standard_input → desk.at + n ≡ (if b then desk.at + n else desk.input)
     input true d name = refl
     input false d name = absurd (false≢true (d.1 name))
 
-    input_within : (b : Bool) → Decides b ((file_at desk place).0 ≡ dash) → (p : ℕ) → place_of desk dash ≡ Some p → (if b then desk.at + n else desk.input) ≤ length (file_at desk p).1
+    input_within : (b : Bool) → Decides b ((file_at desk place).0 ≡ standard_input) → (p : ℕ) → find_file desk standard_input ≡ Some p → (if b then desk.at + n else desk.input) ≤ length (file_at desk p).1
     input_within true d p first =
-        let both : Some place ≡ Some p = sym (is.first place here) ∙ ap (place_of desk) (d.0 refl) ∙ first in
+        let both : Some place ≡ Some p = sym (is.first place here) ∙ ap (find_file desk) (d.0 refl) ∙ first in
         let at_p : place ≡ p = cc in
         subst (λ (p : ℕ). desk.at + n ≤ length (file_at desk p).1) at_p (omega (arith, fits, is.within place here))
     input_within false d p first = is.input_within p first

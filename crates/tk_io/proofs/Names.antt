@@ -11,8 +11,8 @@ use Rattle.std.proofs.lemmas.List.Sums.{position_or_len_is}
 use Rattle.std.proofs.lemmas.List.Quantifiers.{position-Some}
 use Rattle.std.proofs.lemmas.Slice.Eq.{bytes_eq-Decides}
 use Rattle.tk_io.specs.declared.desk.MemFile.{MemFile}
-use Rattle.tk_io.specs.Shelf.{dash}
-use Rattle.tk_io.specs.Desk.{NamesDiffer, HoldsEach, shown, new_desk, place_of, file_at, start_at}
+use Rattle.tk_io.specs.Shelf.{standard_input}
+use Rattle.tk_io.specs.Desk.{NamesDiffer, HoldsEach, shown, new_desk, find_file, file_at, start_at}
 use Rattle.tk_io.proofs.DeskFiles.{position-map}
 
 -- the file at a place is the first of its name
@@ -45,9 +45,9 @@ NamesDiffer-first files place d within differ =
 pub HoldsEach-new : (files : List MemFile) → NamesDiffer files → HoldsEach (new_desk files) files
 HoldsEach-new files differ place d within =
     let file = get_or files place d in
-    let there : place_of (new_desk files) (string_bytes file.name) ≡ Some place = position-map (λ (f : List ℕ × List ℕ). bytes_eq f.0 (string_bytes file.name)) shown files ∙ NamesDiffer-first files place d within differ in
+    let there : find_file (new_desk files) (string_bytes file.name) ≡ Some place = position-map (λ (f : List ℕ × List ℕ). bytes_eq f.0 (string_bytes file.name)) shown files ∙ NamesDiffer-first files place d within differ in
     ap (λ (o : Option ℕ). option_map (λ p. drop (start_at (new_desk files) p) (file_at (new_desk files) p).1) o) there
-    ∙ ap (λ (k : ℕ). Some (drop k (file_at (new_desk files) place).1)) (same (bytes_eq (file_at (new_desk files) place).0 dash))
+    ∙ ap (λ (k : ℕ). Some (drop k (file_at (new_desk files) place).1)) (same (bytes_eq (file_at (new_desk files) place).0 standard_input))
     ∙ ap (λ (f : List ℕ × List ℕ). Some f.1) (get_or-map shown files place d ([], []) within)
   where
     same : (b : Bool) → ◌≡◌ {A = ℕ} (if b then 0 else 0) 0

@@ -11,8 +11,8 @@ use Rattle.std.proofs.Math.Seq.{drop-drop}
 use mathlib.Core.Path.{fun_ext}
 use Rattle.tk_io.specs.declared.Failed.{Failed}
 use Rattle.tk_io.specs.Causes.{count_on, is_listed}
-use Rattle.tk_io.specs.Shelf.{Counts, Opens, Reads, HandsOut, dash, with_input}
-use Rattle.tk_io.specs.Desk.{OnDesk, IsDesk, file_at, place_of, start_at, bytes_under, is_current, opened_at, moved_on}
+use Rattle.tk_io.specs.Shelf.{Counts, Opens, Reads, HandsOut, standard_input, with_input}
+use Rattle.tk_io.specs.Desk.{OnDesk, IsDesk, file_at, find_file, start_at, bytes_under, is_current, opened_at, moved_on}
 use Rattle.tk_io.specs.Stock.{Stock, stock_means, count_at, called, blamed, OpensStock, ReadsStock}
 use Rattle.tk_io.proofs.DeskFiles.{in_place, named}
 
@@ -26,27 +26,27 @@ if_false true P x y d p = absurd (p (d.0 refl))
 if_false false P x y d p = refl
 
 -- once so many bytes of standard input are behind, it has what is left of them, and every other name what it had
-pub bytes_under-input : (desk : OnDesk) (place m : ℕ) → place_of desk dash ≡ Some place → bytes_under (record desk { input = m }) ≡ with_input (Some (drop m (file_at desk place).1)) (bytes_under desk)
-bytes_under-input desk place m here = fun_ext (λ n. by_test n (bytes_eq n dash) (bytes_eq-Decides n dash))
+pub bytes_under-input : (desk : OnDesk) (place m : ℕ) → find_file desk standard_input ≡ Some place → bytes_under (record desk { input = m }) ≡ with_input (Some (drop m (file_at desk place).1)) (bytes_under desk)
+bytes_under-input desk place m here = fun_ext (λ n. by_test n (bytes_eq n standard_input) (bytes_eq-Decides n standard_input))
   where
     input : OnDesk
     input = record desk { input = m }
 
-    at_input : (n : List ℕ) → n ≡ dash → bytes_under (record desk { input = m }) n ≡ Some (drop m (file_at desk place).1)
+    at_input : (n : List ℕ) → n ≡ standard_input → bytes_under (record desk { input = m }) n ≡ Some (drop m (file_at desk place).1)
     at_input n is =
-        ap (λ (o : Option ℕ). option_map (λ p. drop (start_at (record desk { input = m }) p) (file_at desk p).1) o) (ap (place_of desk) is ∙ here)
-        ∙ ap (λ (k : ℕ). Some (drop k (file_at desk place).1)) (if_true (bytes_eq (file_at desk place).0 dash) ((file_at desk place).0 ≡ dash) m 0 (bytes_eq-Decides (file_at desk place).0 dash) (named desk place dash here))
+        ap (λ (o : Option ℕ). option_map (λ p. drop (start_at (record desk { input = m }) p) (file_at desk p).1) o) (ap (find_file desk) is ∙ here)
+        ∙ ap (λ (k : ℕ). Some (drop k (file_at desk place).1)) (if_true (bytes_eq (file_at desk place).0 standard_input) ((file_at desk place).0 ≡ standard_input) m 0 (bytes_eq-Decides (file_at desk place).0 standard_input) (named desk place standard_input here))
 
-    other : (n : List ℕ) → (n ≡ dash → ⊥) → (q : Option ℕ) → place_of desk n ≡ q → option_map (λ p. drop (start_at (record desk { input = m }) p) (file_at desk p).1) q ≡ option_map (λ p. drop (start_at desk p) (file_at desk p).1) q
+    other : (n : List ℕ) → (n ≡ standard_input → ⊥) → (q : Option ℕ) → find_file desk n ≡ q → option_map (λ p. drop (start_at (record desk { input = m }) p) (file_at desk p).1) q ≡ option_map (λ p. drop (start_at desk p) (file_at desk p).1) q
     other n not None e = refl
     other n not (Some p) e =
-        let name : (file_at desk p).0 ≡ dash → ⊥ = λ is. not (sym (named desk p n e) ∙ is) in
-        let test = bytes_eq-Decides (file_at desk p).0 dash in
-        ap (λ (k : ℕ). Some (drop k (file_at desk p).1)) (if_false (bytes_eq (file_at desk p).0 dash) ((file_at desk p).0 ≡ dash) m 0 test name ∙ sym (if_false (bytes_eq (file_at desk p).0 dash) ((file_at desk p).0 ≡ dash) desk.input 0 test name))
+        let name : (file_at desk p).0 ≡ standard_input → ⊥ = λ is. not (sym (named desk p n e) ∙ is) in
+        let test = bytes_eq-Decides (file_at desk p).0 standard_input in
+        ap (λ (k : ℕ). Some (drop k (file_at desk p).1)) (if_false (bytes_eq (file_at desk p).0 standard_input) ((file_at desk p).0 ≡ standard_input) m 0 test name ∙ sym (if_false (bytes_eq (file_at desk p).0 standard_input) ((file_at desk p).0 ≡ standard_input) desk.input 0 test name))
 
-    by_test : (n : List ℕ) (b : Bool) → Decides b (n ≡ dash) → bytes_under (record desk { input = m }) n ≡ (if b then Some (drop m (file_at desk place).1) else bytes_under desk n)
+    by_test : (n : List ℕ) (b : Bool) → Decides b (n ≡ standard_input) → bytes_under (record desk { input = m }) n ≡ (if b then Some (drop m (file_at desk place).1) else bytes_under desk n)
     by_test n true d = at_input n (d.0 refl)
-    by_test n false d = other n (λ is. false≢true (d.1 is)) (place_of desk n) refl
+    by_test n false d = other n (λ is. false≢true (d.1 is)) (find_file desk n) refl
 
 -- the count that goes up
 rises : (stock : Stock) (place : Option ℕ) → ((p : ℕ) → place ≡ Some p → p < length stock.faults) → count_on (count_at stock place) 1 ≤ count_at (blamed place stock) place
@@ -54,29 +54,29 @@ rises stock None fits = omega arith
 rises stock (Some p) fits = omega (arith, get_or-set_same stock.faults p (count_on (slice_index stock.faults p) 1) 0 (fits p refl))
 
 -- the count of another file stays
-stays : (stock : Stock) (name n : List ℕ) (place of : Option ℕ) → place_of stock.desk name ≡ place → place_of stock.desk n ≡ of → (of ≡ None → ⊥) → n ≢ name → count_at (blamed place stock) of ≡ count_at stock of
+stays : (stock : Stock) (name n : List ℕ) (place of : Option ℕ) → find_file stock.desk name ≡ place → find_file stock.desk n ≡ of → (of ≡ None → ⊥) → n ≢ name → count_at (blamed place stock) of ≡ count_at stock of
 stays stock name n place None here there has other = absurd (has refl)
 stays stock name n None (Some q) here there has other = refl
 stays stock name n (Some p) (Some q) here there has other =
     get_or-set_other stock.faults p q (count_on (slice_index stock.faults p) 1) 0 (λ (same : q ≡ p). other (sym (named stock.desk q n there) ∙ ap (λ (k : ℕ). (file_at stock.desk k).0) same ∙ named stock.desk p name here))
 
 -- what a fault of a name does to the counts
-Counts-blamed : (name : List ℕ) (stock : Stock) (current : Option ℕ) (taken : ℕ) (place : Option ℕ) → place_of stock.desk name ≡ place
+Counts-blamed : (name : List ℕ) (stock : Stock) (current : Option ℕ) (taken : ℕ) (place : Option ℕ) → find_file stock.desk name ≡ place
     → ((of : Option ℕ) → count_at stock of ≤ count_at (blamed place (called stock (record stock.desk { current = current; taken = taken }))) of)
     → Counts name (stock_means stock) (stock_means (blamed place (called stock (record stock.desk { current = current; taken = taken }))))
 Counts-blamed name stock current taken None here no_fall = record {
-  no_fall = λ n. no_fall (place_of stock.desk n);
-  others = λ n has other. stays stock name n None (place_of stock.desk n) here refl (λ none. has (ap (λ (o : Option ℕ). option_map (λ p. drop (start_at stock.desk p) (file_at stock.desk p).1) o) none)) other;
+  no_fall = λ n. no_fall (find_file stock.desk n);
+  others = λ n has other. stays stock name n None (find_file stock.desk n) here refl (λ none. has (ap (λ (o : Option ℕ). option_map (λ p. drop (start_at stock.desk p) (file_at stock.desk p).1) o) none)) other;
   sure = refl;
 }
 Counts-blamed name stock current taken (Some place) here no_fall = record {
-  no_fall = λ n. no_fall (place_of stock.desk n);
-  others = λ n has other. stays stock name n (Some place) (place_of stock.desk n) here refl (λ none. has (ap (λ (o : Option ℕ). option_map (λ p. drop (start_at stock.desk p) (file_at stock.desk p).1) o) none)) other;
+  no_fall = λ n. no_fall (find_file stock.desk n);
+  others = λ n has other. stays stock name n (Some place) (find_file stock.desk n) here refl (λ none. has (ap (λ (o : Option ℕ). option_map (λ p. drop (start_at stock.desk p) (file_at stock.desk p).1) o) none)) other;
   sure = refl;
 }
 
 -- a name that is there is opened
-pub Opens-opened : (name : List ℕ) (stock : Stock) (place : ℕ) → place_of stock.desk name ≡ Some place → Opens name (stock_means stock) (stock_means (called stock (opened_at stock.desk place))) (Ok tt)
+pub Opens-opened : (name : List ℕ) (stock : Stock) (place : ℕ) → find_file stock.desk name ≡ Some place → Opens name (stock_means stock) (stock_means (called stock (opened_at stock.desk place))) (Ok tt)
 Opens-opened name stock place here = record {
   counts = record { no_fall = λ n. omega arith; others = λ n has other. refl; sure = refl };
   cause = tt;
@@ -91,7 +91,7 @@ Opens-opened name stock place here = record {
 }
 
 -- a call that opens nothing
-pub Opens-failed : (name : List ℕ) (stock : Stock) (failed : Failed) (place : Option ℕ) → place_of stock.desk name ≡ place → ((p : ℕ) → place ≡ Some p → p < length stock.faults)
+pub Opens-failed : (name : List ℕ) (stock : Stock) (failed : Failed) (place : Option ℕ) → find_file stock.desk name ≡ place → ((p : ℕ) → place ≡ Some p → p < length stock.faults)
     → ((of : Option ℕ) → count_at stock of ≤ count_at (blamed place (called stock (record stock.desk { current = None; taken = 0 }))) of)
     → Opens name (stock_means stock) (stock_means (blamed place (called stock (record stock.desk { current = None; taken = 0 })))) (Err failed)
 Opens-failed name stock failed None here fits no_fall = record {
@@ -142,10 +142,11 @@ Reads-moved name stock place n before after is some e open_ same count front = r
       (drop_all desk.at (file_at desk place).1 (omega (arith, count, same, none, room, some)));
   taken = refl;
   none_taken = tt;
-  holds = λ other. ap (λ (k : ℕ). Some (bytes_under (record desk { input = k }))) (if_false (bytes_eq (file_at desk place).0 dash) ((file_at desk place).0 ≡ dash) (desk.at + n) desk.input (bytes_eq-Decides (file_at desk place).0 dash) (λ is. other (sym named_so ∙ is)));
+  all_left = tt;
+  holds = λ other. ap (λ (k : ℕ). Some (bytes_under (record desk { input = k }))) (if_false (bytes_eq (file_at desk place).0 standard_input) ((file_at desk place).0 ≡ standard_input) (desk.at + n) desk.input (bytes_eq-Decides (file_at desk place).0 standard_input) (λ is. other (sym named_so ∙ is)));
   input = λ is_dash.
-      ap (λ (k : ℕ). Some (bytes_under (record desk { input = k }))) (if_true (bytes_eq (file_at desk place).0 dash) ((file_at desk place).0 ≡ dash) (desk.at + n) desk.input (bytes_eq-Decides (file_at desk place).0 dash) (named_so ∙ is_dash))
-      ∙ ap (λ (h : List ℕ → Option (List ℕ)). Some h) (bytes_under-input desk place (desk.at + n) (ap (place_of desk) (sym (named_so ∙ is_dash)) ∙ is.first place e)
+      ap (λ (k : ℕ). Some (bytes_under (record desk { input = k }))) (if_true (bytes_eq (file_at desk place).0 standard_input) ((file_at desk place).0 ≡ standard_input) (desk.at + n) desk.input (bytes_eq-Decides (file_at desk place).0 standard_input) (named_so ∙ is_dash))
+      ∙ ap (λ (h : List ℕ → Option (List ℕ)). Some h) (bytes_under-input desk place (desk.at + n) (ap (find_file desk) (sym (named_so ∙ is_dash)) ∙ is.first place e)
       ∙ ap (λ (o : Option ℕ). with_input (option_map (λ p. drop (desk.at + n) (file_at desk p).1) o) (bytes_under desk)) (sym e));
 }
   where
@@ -169,9 +170,10 @@ Reads-failed name stock failed place buffer is fits e open_ no_fall = record {
   ends = tt;
   taken = tt;
   none_taken = refl;
+  all_left = refl;
   holds = λ other. refl;
   input = λ is_dash. ap (λ (h : List ℕ → Option (List ℕ)). Some h)
-      (bytes_under-input stock.desk place stock.desk.input (ap (place_of stock.desk) (sym is_dash) ∙ here)
+      (bytes_under-input stock.desk place stock.desk.input (ap (find_file stock.desk) (sym is_dash) ∙ here)
       ∙ ap (λ (k : ℕ). with_input (Some (drop k (file_at stock.desk place).1)) (bytes_under stock.desk)) (sym (is.input place e (named_so ∙ is_dash)))
       ∙ ap (λ (o : Option ℕ). with_input (option_map (λ p. drop stock.desk.at (file_at stock.desk p).1) o) (bytes_under stock.desk)) (sym e));
 }
@@ -179,8 +181,8 @@ Reads-failed name stock failed place buffer is fits e open_ no_fall = record {
     named_so : (file_at stock.desk place).0 ≡ name
     named_so = is_named stock.desk place name e open_
 
-    here : place_of stock.desk name ≡ Some place
-    here = subst (λ (n : List ℕ). place_of stock.desk n ≡ Some place) named_so (is.first place e)
+    here : find_file stock.desk name ≡ Some place
+    here = subst (λ (n : List ℕ). find_file stock.desk n ≡ Some place) named_so (is.first place e)
 
 -- a call was made
 pub called-is : (inside old : Stock) (desk : OnDesk) (calls : ℕ) (f : OnDesk → OnDesk) → inside ≡ old → desk ≡ f inside.desk → calls ≡ count_on inside.calls 1 → record inside { desk = desk; calls = calls } ≡ called old (f old.desk)
@@ -191,7 +193,7 @@ called-is inside old desk calls f same is counted =
 
 -- the same of what it means, after a fault was counted
 pub Opens-blamed : (name : List ℕ) (old mid new : Stock) (failed : Failed) (place : Option ℕ) → mid ≡ called old (record old.desk { current = None; taken = 0 }) → new ≡ blamed place mid
-    → ((of : Option ℕ) → count_at mid of ≤ count_at new of) → place_of old.desk name ≡ place → ((p : ℕ) → place ≡ Some p → p < length old.faults) → Opens name (stock_means old) (stock_means new) (Err failed)
+    → ((of : Option ℕ) → count_at mid of ≤ count_at new of) → find_file old.desk name ≡ place → ((p : ℕ) → place ≡ Some p → p < length old.faults) → Opens name (stock_means old) (stock_means new) (Err failed)
 Opens-blamed name old mid new failed place m n no_fall here fits =
     subst (λ (s : Stock). Opens name (stock_means old) (stock_means s) (Err failed)) (sym (n ∙ ap (blamed place) m))
     (Opens-failed name old failed place here fits (λ of. subst (λ (s : Stock). count_at s of ≤ count_at (blamed place s) of) m (subst (λ (s : Stock). count_at mid of ≤ count_at s of) n (no_fall of))))
@@ -203,15 +205,15 @@ Reads-blamed name old mid new failed place buffer m n no_fall is fits e open_ =
     (Reads-failed name old failed place buffer is fits e open_ (λ of. subst (λ (s : Stock). count_at s of ≤ count_at (blamed (Some place) s) of) m (subst (λ (s : Stock). count_at mid of ≤ count_at s of) n (no_fall of))))
 
 -- there is a count for each file
-pub fits_there : (stock : Stock) (place : ℕ) (name : List ℕ) → length stock.faults ≡ length stock.desk.files → place_of stock.desk name ≡ Some place → (p : ℕ) → Some place ≡ Some p → p < length stock.faults
+pub fits_there : (stock : Stock) (place : ℕ) (name : List ℕ) → length stock.faults ≡ length stock.desk.files → find_file stock.desk name ≡ Some place → (p : ℕ) → Some place ≡ Some p → p < length stock.faults
 fits_there stock place name long here p same =
     let at_p : place ≡ p = cc in
     subst (λ (p : ℕ). p < length stock.faults) at_p (omega (arith, long, in_place stock.desk place name here))
 
 -- what was found on a desk that was closed was found on the desk before
-pub found_is : (inside old : Stock) (closed : OnDesk) (name : List ℕ) (place : Option ℕ) → inside ≡ old → closed ≡ record inside.desk { current = None; taken = 0 } → place ≡ place_of closed name → place_of old.desk name ≡ place
+pub found_is : (inside old : Stock) (closed : OnDesk) (name : List ℕ) (place : Option ℕ) → inside ≡ old → closed ≡ record inside.desk { current = None; taken = 0 } → place ≡ find_file closed name → find_file old.desk name ≡ place
 found_is inside old closed name place same is found =
-    ap (λ (s : Stock). place_of s.desk name) (sym same) ∙ ap (λ (d : OnDesk). place_of d name) (sym is) ∙ sym found
+    ap (λ (s : Stock). find_file s.desk name) (sym same) ∙ ap (λ (d : OnDesk). find_file d name) (sym is) ∙ sym found
 
 -- whether the call is listed
 pub listed_is : (inside old : Stock) (xs : List ℕ) (k : ℕ) (r b : Bool) → inside ≡ old → xs ≡ inside.failing → k ≡ count_on inside.calls 1 → r ≡ is_listed xs k → r ≡ b → is_listed old.failing (count_on old.calls 1) ≡ b
@@ -221,7 +223,7 @@ listed_is inside old xs k r b same list call test came =
     ∙ ap (λ (k : ℕ). is_listed xs k) (sym call)
     ∙ sym test ∙ came
 
-pub OpensStock-listed : (name : List ℕ) (old mid new : Stock) (failed : Failed) (place : ℕ) → mid ≡ called old (record old.desk { current = None; taken = 0 }) → new ≡ blamed (Some place) mid → place_of old.desk name ≡ Some place → is_listed old.failing (count_on old.calls 1) ≡ true → OpensStock name old new (Err failed)
+pub OpensStock-listed : (name : List ℕ) (old mid new : Stock) (failed : Failed) (place : ℕ) → mid ≡ called old (record old.desk { current = None; taken = 0 }) → new ≡ blamed (Some place) mid → find_file old.desk name ≡ Some place → is_listed old.failing (count_on old.calls 1) ≡ true → OpensStock name old new (Err failed)
 OpensStock-listed name old mid new failed place m n here listed = record {
   fails = (λ _. inl listed, λ _. refl);
   opened = tt;

@@ -9,24 +9,24 @@ use Rattle.std.proofs.Math.Seq.{drop-drop}
 use mathlib.Core.Path.{fun_ext}
 use Rattle.tk_io.specs.declared.sure.Absent.{Absent}
 use Rattle.tk_io.specs.declared.sure.Absent.TheVariants.{Nothing, Input, Other}
-use Rattle.tk_io.specs.Shelf.{Opens, Reads, HandsOut, dash, with_input}
-use Rattle.tk_io.specs.Desk.{OnDesk, IsDesk, file_at, place_of, start_at, bytes_under, is_current, opened_at, moved_on}
+use Rattle.tk_io.specs.Shelf.{Opens, Reads, HandsOut, standard_input, with_input}
+use Rattle.tk_io.specs.Desk.{OnDesk, IsDesk, file_at, find_file, start_at, bytes_under, is_current, opened_at, moved_on}
 use Rattle.tk_io.specs.SureShelf.{Sure, IsSure, sure_holds, sure_means, sure_open}
 use Rattle.tk_io.proofs.DeskFiles.{named}
 use Rattle.tk_io.proofs.StockSteps.{if_true, if_false, bytes_under-input, is_named}
 
 -- once so many bytes of standard input are behind, the shelf has what is left of them
-sure_holds-input : (desk : OnDesk) (place m : ℕ) → place_of desk dash ≡ Some place → sure_holds (record desk { input = m }) ≡ with_input (Some (drop m (file_at desk place).1)) (sure_holds desk)
+sure_holds-input : (desk : OnDesk) (place m : ℕ) → find_file desk standard_input ≡ Some place → sure_holds (record desk { input = m }) ≡ with_input (Some (drop m (file_at desk place).1)) (sure_holds desk)
 sure_holds-input desk place m here = fun_ext (λ n.
-    ap (λ (h : List ℕ → Option (List ℕ)). option_or (h n) (if bytes_eq n dash then Some [] else None)) (bytes_under-input desk place m here)
-    ∙ by_test (bytes_eq n dash) (bytes_under desk n))
+    ap (λ (h : List ℕ → Option (List ℕ)). option_or (h n) (if bytes_eq n standard_input then Some [] else None)) (bytes_under-input desk place m here)
+    ∙ by_test (bytes_eq n standard_input) (bytes_under desk n))
   where
     by_test : (b : Bool) (h : Option (List ℕ)) → option_or (if b then Some (drop m (file_at desk place).1) else h) (if b then Some [] else None) ≡ (if b then Some (drop m (file_at desk place).1) else option_or h (if b then Some [] else None))
     by_test true h = refl
     by_test false h = refl
 
 -- a name that is there is opened
-pub Sure-opened : (name : List ℕ) (shelf : Sure) (place : ℕ) → place_of shelf.desk name ≡ Some place → Opens name (sure_means shelf) (sure_means (record { desk = opened_at shelf.desk place; absent = Nothing })) (Ok tt)
+pub Sure-opened : (name : List ℕ) (shelf : Sure) (place : ℕ) → find_file shelf.desk name ≡ Some place → Opens name (sure_means shelf) (sure_means (record { desk = opened_at shelf.desk place; absent = Nothing })) (Ok tt)
 Sure-opened name shelf place here = record {
   counts = record { no_fall = λ n. omega arith; others = λ n has other. refl; sure = refl };
   cause = tt;
@@ -35,7 +35,7 @@ Sure-opened name shelf place here = record {
   opened = (bytes_eq-Decides (file_at shelf.desk place).0 name).1 (named shelf.desk place name here);
   only = λ n is _. sym ((bytes_eq-Decides (file_at shelf.desk place).0 n).0 is) ∙ named shelf.desk place name here;
   closed = tt;
-  left = ap (λ (o : Option ℕ). Some (unwrap_or (option_or (option_map (λ p. drop (start_at shelf.desk p) (file_at shelf.desk p).1) o) (if bytes_eq name dash then Some [] else None)) [])) (sym here);
+  left = ap (λ (o : Option ℕ). Some (unwrap_or (option_or (option_map (λ p. drop (start_at shelf.desk p) (file_at shelf.desk p).1) o) (if bytes_eq name standard_input then Some [] else None)) [])) (sym here);
   taken = refl;
   holds = refl;
 }
@@ -68,10 +68,11 @@ Sure-moved name desk place n before after is e open_ same count front = record {
       (drop_all desk.at (file_at desk place).1 (omega (arith, count, same, none, room)));
   taken = refl;
   none_taken = tt;
-  holds = λ other. ap (λ (k : ℕ). Some (sure_holds (record desk { input = k }))) (if_false (bytes_eq (file_at desk place).0 dash) ((file_at desk place).0 ≡ dash) (desk.at + n) desk.input (bytes_eq-Decides (file_at desk place).0 dash) (λ is. other (sym named_so ∙ is)));
+  all_left = tt;
+  holds = λ other. ap (λ (k : ℕ). Some (sure_holds (record desk { input = k }))) (if_false (bytes_eq (file_at desk place).0 standard_input) ((file_at desk place).0 ≡ standard_input) (desk.at + n) desk.input (bytes_eq-Decides (file_at desk place).0 standard_input) (λ is. other (sym named_so ∙ is)));
   input = λ is_dash.
-      ap (λ (k : ℕ). Some (sure_holds (record desk { input = k }))) (if_true (bytes_eq (file_at desk place).0 dash) ((file_at desk place).0 ≡ dash) (desk.at + n) desk.input (bytes_eq-Decides (file_at desk place).0 dash) (named_so ∙ is_dash))
-      ∙ ap (λ (h : List ℕ → Option (List ℕ)). Some h) (sure_holds-input desk place (desk.at + n) (ap (place_of desk) (sym (named_so ∙ is_dash)) ∙ is.first place e)
+      ap (λ (k : ℕ). Some (sure_holds (record desk { input = k }))) (if_true (bytes_eq (file_at desk place).0 standard_input) ((file_at desk place).0 ≡ standard_input) (desk.at + n) desk.input (bytes_eq-Decides (file_at desk place).0 standard_input) (named_so ∙ is_dash))
+      ∙ ap (λ (h : List ℕ → Option (List ℕ)). Some h) (sure_holds-input desk place (desk.at + n) (ap (find_file desk) (sym (named_so ∙ is_dash)) ∙ is.first place e)
       ∙ ap (λ (o : Option ℕ). with_input (option_map (λ p. drop (desk.at + n) (file_at desk p).1) o) (sure_holds desk)) (sym e));
 }
   where

@@ -4,7 +4,7 @@ use Rattle.std.specs.Option.{option_map, option_map_or}
 use Rattle.std.specs.Str.{bytes_eq}
 use Rattle.tk_io.specs.declared.desk.MemFile.{MemFile}
 use Rattle.tk_io.specs.Causes.{count_on}
-use Rattle.tk_io.specs.Shelf.{dash}
+use Rattle.tk_io.specs.Shelf.{standard_input}
 
 -- files in memory as a caller sees them
 pub record OnDesk : Type 0 where
@@ -36,28 +36,34 @@ abbrev pub file_at : OnDesk → ℕ → List ℕ × List ℕ
 file_at desk place = slice_index_or desk.files place ([], [])
 
 -- the place of the file of that name
-abbrev pub place_of : OnDesk → List ℕ → Option ℕ
-place_of desk name = position (λ file. bytes_eq file.0 name) desk.files
+abbrev pub find_file : OnDesk → List ℕ → Option ℕ
+find_file desk name = position (λ file. bytes_eq file.0 name) desk.files
 
 -- how many bytes of the file at a place are behind where it is opened now
 abbrev pub start_at : OnDesk → ℕ → ℕ
-start_at desk place = if bytes_eq (file_at desk place).0 dash then desk.input else 0
+start_at desk place = if bytes_eq (file_at desk place).0 standard_input then desk.input else 0
 
 -- the bytes that are there under a name: of standard input those that are left
 abbrev pub bytes_under : OnDesk → List ℕ → Option (List ℕ)
-bytes_under desk name = option_map (λ place. drop (start_at desk place) (file_at desk place).1) (place_of desk name)
+bytes_under desk name =
+    option_map (λ place. drop (start_at desk place) (file_at desk place).1) (find_file desk name)
 
 -- each file's bytes are there under its name
 abbrev pub HoldsEach : OnDesk → List MemFile → Type 0
-HoldsEach desk files = (place : ℕ) (d : MemFile) → place < length files → bytes_under desk (string_bytes (slice_index_or files place d).name) ≡ Some (slice_index_or files place d).bytes.items
+HoldsEach desk files =
+    (place : ℕ) (d : MemFile)
+    → place < length files
+    → let file = slice_index_or files place d in
+    bytes_under desk (string_bytes file.name) ≡ Some file.bytes.items
 
 -- the bytes left of the open file
-abbrev pub left_of : OnDesk → Option (List ℕ)
-left_of desk = option_map (λ place. drop desk.at (file_at desk place).1) desk.current
+abbrev pub open_rest : OnDesk → Option (List ℕ)
+open_rest desk = option_map (λ place. drop desk.at (file_at desk place).1) desk.current
 
 -- whether the file of that name is open
 abbrev pub is_current : OnDesk → List ℕ → Bool
-is_current desk name = option_map_or (λ place. bytes_eq (file_at desk place).0 name) desk.current false
+is_current desk name =
+    option_map_or (λ place. bytes_eq (file_at desk place).0 name) desk.current false
 
 -- the file at a place is opened
 abbrev pub opened_at : OnDesk → ℕ → OnDesk
@@ -65,12 +71,26 @@ opened_at desk place = record desk { current = Some place; at = start_at desk pl
 
 -- n bytes of the file at a place, the open one, are handed out
 abbrev pub moved_on : OnDesk → ℕ → ℕ → OnDesk
-moved_on desk place n = record desk { at = desk.at + n; input = if bytes_eq (file_at desk place).0 dash then desk.at + n else desk.input; taken = count_on desk.taken n }
+moved_on desk place n = record desk {
+  at = desk.at + n;
+  input = if bytes_eq (file_at desk place).0 standard_input then desk.at + n else desk.input;
+  taken = count_on desk.taken n;
+}
 
--- what is known of every desk: the open file is the first of its name, what was handed out of it was there,
--- and so was what was handed out of standard input
+-- what is known of every desk: the open file is the first of its name, what was handed out of it
+-- was there, and so was what was handed out of standard input
 pub record IsDesk (desk : OnDesk) : Type 0 where
-  pub first : (place : ℕ) → desk.current ≡ Some place → place_of desk (file_at desk place).0 ≡ Some place
+  pub first :
+      (place : ℕ)
+      → desk.current ≡ Some place
+      → find_file desk (file_at desk place).0 ≡ Some place
   pub within : (place : ℕ) → desk.current ≡ Some place → desk.at ≤ length (file_at desk place).1
-  pub input : (place : ℕ) → desk.current ≡ Some place → (file_at desk place).0 ≡ dash → desk.at ≡ desk.input
-  pub input_within : (place : ℕ) → place_of desk dash ≡ Some place → desk.input ≤ length (file_at desk place).1
+  pub input :
+      (place : ℕ)
+      → desk.current ≡ Some place
+      → (file_at desk place).0 ≡ standard_input
+      → desk.at ≡ desk.input
+  pub input_within :
+      (place : ℕ)
+      → find_file desk standard_input ≡ Some place
+      → desk.input ≤ length (file_at desk place).1

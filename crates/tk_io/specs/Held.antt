@@ -26,8 +26,15 @@ held_means sink = record { bytes = Some sink.bytes; faults = sink.faults }
 -- what writing a piece to a sink in memory does
 pub record WritesHeld (piece : List ℕ) (old new : Held) (result : Result ℕ Failed) : Type 0 where
   -- it fails exactly on the listed calls, and on a piece that isn't empty where the room is full
-  pub fails : IsErr result ↔ (IsTrue (is_listed old.failing (count_on old.calls 1)) ⊎ ((0 < length piece) × (length old.bytes ≡ old.room)))
+  pub fails :
+      IsErr result
+      ↔ (IsTrue (is_listed old.failing (count_on old.calls 1))
+      ⊎ ((0 < length piece) × (length old.bytes ≡ old.room)))
   -- it takes as much as it may
   pub count : IfOk result (λ n. n ≡ min (min (length piece) old.most) (old.room - length old.bytes))
-  pub takes : IfOk result (λ n. new ≡ record old { bytes = old.bytes ++ take n piece; calls = count_on old.calls 1 })
-  pub failed : OnErr result (new ≡ record old { calls = count_on old.calls 1; faults = count_on old.faults 1 })
+  pub takes :
+      IfOk result (λ n.
+      new ≡ record old { bytes = old.bytes ++ take n piece; calls = count_on old.calls 1 })
+  pub failed :
+      OnErr result
+      (new ≡ record old { calls = count_on old.calls 1; faults = count_on old.faults 1 })

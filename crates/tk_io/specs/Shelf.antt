@@ -1,5 +1,5 @@
 -- What a shelf of files means, and what its calls do.
-use Rattle.std.specs.Prelude.{◌≡◌, ◌≢◌, ℕ, ◌<◌, ◌≤◌, Bool, true, false, if◌then◌else◌, List, [], ◌∷◌, length, take, drop, Option, Some, None, IfSome, Result, IfOk, OnOk, OnErr, IsOk, IsErr, unwrap_or}
+use Rattle.std.specs.Prelude.{◌≡◌, ◌≢◌, ℕ, ◌<◌, ◌≤◌, Bool, true, false, if◌then◌else◌, List, [], length, take, drop, codes, Option, Some, None, IfSome, Result, IfOk, OnOk, OnErr, IsOk, IsErr, unwrap_or}
 use Rattle.std.specs.Str.{bytes_eq}
 use Rattle.tk_io.specs.declared.Failed.{Failed}
 use Rattle.tk_io.specs.Causes.{Rose, count_on}
@@ -20,31 +20,55 @@ pub record Shelved : Type 0 where
   pub sure : Bool
 
 -- the name of standard input
-abbrev pub dash : List ℕ
-dash = 45 ∷ []
+abbrev pub standard_input : List ℕ
+standard_input = codes "-"
 
 -- what a shelf holds once this is left of standard input
 abbrev pub with_input : Option (List ℕ) → (List ℕ → Option (List ℕ)) → List ℕ → Option (List ℕ)
-with_input left holds name = if bytes_eq name dash then left else holds name
+with_input left holds name = if bytes_eq name standard_input then left else holds name
+
+-- of standard input the shelf has what `rest` makes of its bytes, and all else as before
+abbrev pub LeavesOfInput : (List ℕ → List ℕ) → Shelved → Shelved → Type 0
+LeavesOfInput rest old new =
+    IfSome old.holds (λ holds.
+    new.holds ≡ Some (with_input (Some (rest (unwrap_or (holds standard_input) []))) holds))
+
+-- reading a file leaves on the shelf what it held; of standard input, where that is the file, only
+-- what is behind the bytes that were taken
+pub data Leaves (name : List ℕ) (old new : Shelved) : Type 0 where
+  all_kept : new.holds ≡ old.holds → Leaves name old new
+  input_read :
+      name ≡ standard_input → LeavesOfInput (drop new.taken) old new → Leaves name old new
 
 -- what a call on a name does to the counts
 pub record Counts (name : List ℕ) (old new : Shelved) : Type 0 where
   pub no_fall : (n : List ℕ) → old.faults n ≤ new.faults n
   -- another name under which it has bytes, be they none, keeps its count
-  pub others : IfSome old.holds (λ holds. (n : List ℕ) → holds n ≢ None → n ≢ name → new.faults n ≡ old.faults n)
+  pub others :
+      IfSome old.holds (λ holds.
+      (n : List ℕ) → holds n ≢ None → n ≢ name → new.faults n ≡ old.faults n)
   pub sure : new.sure ≡ old.sure
 
 -- what opening a name does
-pub record Opens (name : List ℕ) (old new : Shelved) (result : Result (Unit {0}) Failed) : Type 0 where
+pub record Opens
+    (name : List ℕ) (old new : Shelved) (result : Result (Unit {0}) Failed) : Type 0 where
   pub counts : Counts name old new
   pub cause : OnErr result (Rose (old.faults name) (new.faults name))
   pub sure : old.sure ≡ true → IsOk result
-  pub missing : IfSome old.holds (λ holds. holds name ≡ None → old.sure ≡ false → IsErr result)
+  pub missing :
+      IfSome old.holds (λ holds. holds name ≡ None → old.sure ≡ false → IsErr result)
   pub opened : OnOk result (new.is_open name ≡ true)
-  -- no other name is open; only of the names that a sure shelf doesn't have it may say alike that they are
-  pub only : OnOk result (IfSome old.holds (λ holds. (n : List ℕ) → new.is_open n ≡ true → (holds name ≡ None → holds n ≡ None → old.sure ≡ false) → n ≡ name))
+  -- no other name is open; only of the names that a sure shelf doesn't have it may say alike that
+  -- they are
+  pub only :
+      OnOk result (IfSome old.holds (λ holds.
+      (n : List ℕ)
+      → new.is_open n ≡ true
+      → (holds name ≡ None → holds n ≡ None → old.sure ≡ false)
+      → n ≡ name))
   pub closed : OnErr result ((n : List ℕ) → new.is_open n ≡ false)
-  pub left : OnOk result (IfSome old.holds (λ holds. new.left ≡ Some (unwrap_or (holds name) [])))
+  pub left :
+      OnOk result (IfSome old.holds (λ holds. new.left ≡ Some (unwrap_or (holds name) [])))
   pub taken : OnOk result (new.taken ≡ 0)
   pub holds : new.holds ≡ old.holds
 
@@ -55,17 +79,24 @@ pub record HandsOut (n : ℕ) (buffer : List ℕ) (left : List ℕ) (new : Optio
   pub rest : new ≡ Some (drop n left)
 
 -- what reading the open name does
-pub record Reads (name : List ℕ) (old new : Shelved) (result : Result ℕ Failed) (buffer : List ℕ) : Type 0 where
+pub record Reads
+    (name : List ℕ) (old new : Shelved) (result : Result ℕ Failed) (buffer : List ℕ)
+    : Type 0 where
   pub counts : Counts name old new
   pub cause : OnErr result (Rose (old.faults name) (new.faults name))
   pub sure : old.sure ≡ true → IsOk result
   pub is_open : new.is_open ≡ old.is_open
   pub bound : IfOk result (λ n. n ≤ length buffer)
-  pub bytes : IfOk result (λ n. IfSome old.left (λ left. HandsOut n buffer left new.left))
+  pub bytes :
+      IfOk result (λ n. IfSome old.left (λ left. HandsOut n buffer left new.left))
   -- none into a buffer that has room is the end
-  pub ends : IfOk result (λ n. n ≡ 0 → 0 < length buffer → IfSome old.left (λ left. left ≡ []))
+  pub ends :
+      IfOk result (λ n. n ≡ 0 → 0 < length buffer → IfSome old.left (λ left. left ≡ []))
   pub taken : IfOk result (λ n. new.taken ≡ count_on old.taken n)
+  -- a read that fails takes nothing
   pub none_taken : OnErr result (new.taken ≡ old.taken)
-  pub holds : name ≢ dash → new.holds ≡ old.holds
+  pub all_left : OnErr result (new.left ≡ old.left)
+  pub holds : name ≢ standard_input → new.holds ≡ old.holds
   -- under the name of standard input the shelf then has what is left
-  pub input : name ≡ dash → IfSome old.holds (λ holds. new.holds ≡ Some (with_input new.left holds))
+  pub input :
+      name ≡ standard_input → IfSome old.holds (λ holds. new.holds ≡ Some (with_input new.left holds))

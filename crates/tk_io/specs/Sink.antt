@@ -24,7 +24,8 @@ pub record Writes (piece : List ℕ) (old new : Sunk) (result : Result ℕ Faile
   pub bytes : IfOk result (λ n. Takes old new (take n piece))
 
 -- a piece was written whole, or only a part of it was, and then the sink failed
-pub record WritesAll (piece : List ℕ) (old new : Sunk) (result : Result (Unit {0}) Failed) : Type 0 where
+pub record WritesAll
+    (piece : List ℕ) (old new : Sunk) (result : Result (Unit {0}) Failed) : Type 0 where
   pub no_fall : old.faults ≤ new.faults
   pub cause : OnErr result (Rose old.faults new.faults)
   pub part : OnErr result ((n : ℕ) × (n < length piece) × Takes old new (take n piece))

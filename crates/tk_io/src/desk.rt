@@ -3,7 +3,7 @@
 ghost use Rattle.std.specs.Prelude.{◌≡◌, ◌-◌, ◌<◌, min, length, take, drop, None};
 ghost use Rattle.std.specs.Prelude.{position, string_bytes, ◌↔◌, IsTrue};
 ghost use Rattle.std.specs.Str.{bytes_eq};
-ghost use Rattle.tk_io.specs.Desk.{new_desk, shown, place_of, file_at, opened_at, moved_on, IsDesk, NamesDiffer};
+ghost use Rattle.tk_io.specs.Desk.{new_desk, shown, find_file, file_at, opened_at, moved_on, IsDesk, NamesDiffer};
 
 use std::marker::Model;
 
@@ -32,9 +32,21 @@ impl Model for Desk {
 
     ghost Value = { OnDesk };
 
-    ghost view = { λ d. record { files = map shown d.files.items; current = d.current; at = d.at; input = d.input; taken = d.taken } };
+    ghost view = { λ d. record {
+      files = map shown d.files.items;
+      current = d.current;
+      at = d.at;
+      input = d.input;
+      taken = d.taken;
+    } };
 
-    ghost invariant = { λ d. IsDesk (record { files = map shown d.files.items; current = d.current; at = d.at; input = d.input; taken = d.taken }) };
+    ghost invariant = { λ d. IsDesk (record {
+      files = map shown d.files.items;
+      current = d.current;
+      at = d.at;
+      input = d.input;
+      taken = d.taken;
+    }) };
 }
 
 impl Desk {
@@ -51,8 +63,8 @@ impl Desk {
     }
 
     // The place of the file of that name.
-    pub(crate) fn place_of(&self, name: &str) -> Option<usize>
-        ensures place { result ≡ place_of self.now name.now }
+    pub(crate) fn find(&self, name: &str) -> Option<usize>
+        ensures place { result ≡ find_file self.now name.now }
     {
         place_in(&self.files, name)
     }
@@ -83,7 +95,7 @@ impl Desk {
 
     // Opens the file at a place, which is the first of its name.
     pub(crate) fn open_at(&mut self, place: usize)
-        requires { place_of self.old (file_at self.old place).0 ≡ Some place }
+        requires { find_file self.old (file_at self.old place).0 ≡ Some place }
         ensures { self.new ≡ opened_at self.old place }
     {
         let is_input = self.file(place).name.as_str() == "-";
@@ -95,8 +107,10 @@ impl Desk {
     // Hands out the next bytes of the open file, which is the one at this place, at most so many.
     pub(crate) fn hand_out(&mut self, place: usize, buf: &mut [u8], most: usize) -> usize
         requires { self.old.current ≡ Some place }
-        ensures count { result ≡ min (min (length buf.old) most) (length (file_at self.old place).1 - self.old.at) }
-        ensures front { take result buf.new ≡ take result (drop self.old.at (file_at self.old place).1) }
+        ensures count { result
+            ≡ min (min (length buf.old) most) (length (file_at self.old place).1 - self.old.at) }
+        ensures front { take result buf.new
+            ≡ take result (drop self.old.at (file_at self.old place).1) }
         ensures rest { drop result buf.new ≡ drop result buf.old }
         ensures moved { self.new ≡ moved_on self.old place result }
     {

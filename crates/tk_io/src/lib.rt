@@ -45,7 +45,9 @@ pub trait Shelf {
     /// None into a buffer that has room is the end of the file.
     fn read(&mut self, buf: &mut [u8]) -> Result<usize, Failed>
         requires { (name : List ℕ) × ((meaning self.old).is_open name ≡ true) }
-        ensures { (name : List ℕ) → (meaning self.old).is_open name ≡ true → Reads name (meaning self.old) (meaning self.new) result buf.new };
+        ensures { (name : List ℕ)
+            → (meaning self.old).is_open name ≡ true
+            → Reads name (meaning self.old) (meaning self.new) result buf.new };
 }
 
 /// What takes bytes.

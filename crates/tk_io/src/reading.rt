@@ -47,7 +47,8 @@ impl From<Failed> for ReadRefusal {
 /// Opens a file and reads all of its bytes. A file that goes on after [`MOST_BYTES`] bytes is
 /// refused once one byte more was taken, so this ends on every shelf.
 pub fn read_all<H: Shelf>(alloc: Global, shelf: &mut H, name: &str) -> Result<Vec<u8>, ReadRefusal>
-    ensures { ReadsAll name.now (H.meaning shelf.old) (H.meaning shelf.new) (result_map_both (λ v. v.items) (λ e. e) result) }
+    ensures { ReadsAll name.now (H.meaning shelf.old) (H.meaning shelf.new)
+        (result_map_both (λ v. v.items) (λ e. e) result) }
 {
     shelf.open(name)?;
     let mut bytes = Vec::new(alloc);

@@ -46,7 +46,15 @@ impl MemShelf {
     ) -> Result<MemShelf, AllocError>
         requires most { 1 ≤ most }
         requires differ { NamesDiffer files.items }
-        ensures fresh { IfOk result (λ shelf. shelf ≡ record { desk = new_desk files.items; most = most; failing = failing.items; calls = 0; faults = replicate (length files.items) 0; other_faults = 0 }) }
+        ensures fresh { IfOk result (λ shelf.
+            shelf ≡ record {
+              desk = new_desk files.items;
+              most = most;
+              failing = failing.items;
+              calls = 0;
+              faults = replicate (length files.items) 0;
+              other_faults = 0;
+            }) }
         ensures holds { IfOk result (λ shelf. HoldsEach shelf.desk files.items) }
     {
         let faults = vec![in alloc; 0; files.len()]?;
@@ -83,7 +91,7 @@ impl Shelf for MemShelf {
     {
         self.calls = self.calls.saturating_add(1);
         self.desk.close();
-        let Some(place) = self.desk.place_of(name) else {
+        let Some(place) = self.desk.find(name) else {
             self.blame(None);
             return Err(Failed);
         };
@@ -99,8 +107,11 @@ impl Shelf for MemShelf {
     /// calls.
     fn read(&mut self, buf: &mut [u8]) -> Result<usize, Failed>
         requires { (name : List ℕ) × (is_current self.old.desk name ≡ true) }
-        ensures reads { (name : List ℕ) → is_current self.old.desk name ≡ true → Reads name (stock_means self.old) (stock_means self.new) result buf.new }
-        ensures exactly { IfSome self.old.desk.current (λ place. ReadsStock place self.old self.new result buf.old buf.new) }
+        ensures reads { (name : List ℕ)
+            → is_current self.old.desk name ≡ true
+            → Reads name (stock_means self.old) (stock_means self.new) result buf.new }
+        ensures exactly { IfSome self.old.desk.current (λ place.
+            ReadsStock place self.old self.new result buf.old buf.new) }
     {
         self.calls = self.calls.saturating_add(1);
         let Some(place) = self.desk.current() else {

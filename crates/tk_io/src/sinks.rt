@@ -25,9 +25,19 @@ impl Model for MemSink {
 
     ghost Value = { Held };
 
-    ghost view = { λ s. record { bytes = s.bytes.items; room = s.room; most = s.most; failing = s.failing.items; calls = s.calls; faults = s.faults } };
+    ghost view = { λ s. record {
+      bytes = s.bytes.items;
+      room = s.room;
+      most = s.most;
+      failing = s.failing.items;
+      calls = s.calls;
+      faults = s.faults;
+    } };
 
-    ghost invariant = { λ s. (1 ≤ s.most) × (length s.bytes.items ≤ s.room) × (s.room ≤ vec_capacity s.bytes) };
+    ghost invariant = { λ s.
+        (1 ≤ s.most)
+        × (length s.bytes.items ≤ s.room)
+        × (s.room ≤ vec_capacity s.bytes) };
 }
 
 impl MemSink {
@@ -40,7 +50,15 @@ impl MemSink {
         failing: Vec<u64>,
     ) -> Result<MemSink, AllocError>
         requires { 1 ≤ most }
-        ensures { IfOk result (λ sink. sink ≡ record { bytes = []; room = room; most = most; failing = failing.items; calls = 0; faults = 0 }) }
+        ensures { IfOk result (λ sink.
+            sink ≡ record {
+              bytes = [];
+              room = room;
+              most = most;
+              failing = failing.items;
+              calls = 0;
+              faults = 0;
+            }) }
     {
         let bytes = Vec::with_capacity(alloc, room)?;
         Ok(MemSink {
@@ -104,7 +122,10 @@ impl Sink for SureSink {
 
     /// Takes the piece.
     fn write(&mut self, piece: &[u8]) -> Result<usize, Failed>
-        ensures writes { Writes piece.now (record { bytes = None; faults = 0 }) (record { bytes = None; faults = 0 }) result }
+        ensures writes { Writes piece.now
+            (record { bytes = None; faults = 0 })
+            (record { bytes = None; faults = 0 })
+            result }
         ensures whole { result ≡ Ok (length piece.now) }
     {
         Ok(piece.len())

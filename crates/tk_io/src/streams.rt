@@ -30,7 +30,14 @@ enum Source<F, I> {
 impl<'a, R: Files + Input> FileShelf<'a, R> {
     /// No file is open then, and no fault was counted.
     pub fn new(runtime: &'a R) -> Self
-        ensures { ⟦<FileShelf<'a, R> as Shelf>⟧.meaning result ≡ record { holds = None; left = None; taken = 0; is_open = λ _. false; faults = λ _. 0; sure = false } }
+        ensures { ⟦<FileShelf<'a, R> as Shelf>⟧.meaning result ≡ record {
+          holds = None;
+          left = None;
+          taken = 0;
+          is_open = λ _. false;
+          faults = λ _. 0;
+          sure = false;
+        } }
     {
         FileShelf {
             runtime,
@@ -44,7 +51,14 @@ impl<'a, R: Files + Input> FileShelf<'a, R> {
 impl<'a, R: Files + Input> Shelf for FileShelf<'a, R> {
     ghost use Rattle.std.specs.Prelude.{None, is_some, false};
 
-    ghost meaning = { λ s. record { holds = None; left = None; taken = s.taken; is_open = λ _. is_some s.current; faults = λ _. s.faults; sure = false } };
+    ghost meaning = { λ s. record {
+      holds = None;
+      left = None;
+      taken = s.taken;
+      is_open = λ _. is_some s.current;
+      faults = λ _. s.faults;
+      sure = false;
+    } };
 
     fn open(&mut self, name: &str) -> Result<(), Failed> {
         self.taken = 0;
@@ -141,7 +155,10 @@ impl Sink for ErrSink {
 
 // Asks a writer once, and counts a fault where it fails or takes nothing of what isn't empty.
 fn write_once<W: Write>(to: &mut W, piece: &[u8], faults: &mut u64) -> Result<usize, Failed>
-    ensures { Writes piece.now (record { bytes = None; faults = faults.old }) (record { bytes = None; faults = faults.new }) result }
+    ensures { Writes piece.now
+        (record { bytes = None; faults = faults.old })
+        (record { bytes = None; faults = faults.new })
+        result }
 {
     match to.write(piece) {
         Ok(count) if count > 0 || piece.is_empty() => Ok(count),

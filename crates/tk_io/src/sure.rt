@@ -3,7 +3,7 @@
 ghost use Rattle.std.specs.Prelude.{◌≡◌, ℕ, List, true, None, Ok, IsOk, IfOk, IfSome, if◌then◌else◌};
 ghost use Rattle.std.specs.Str.{bytes_eq};
 ghost use Rattle.tk_io.specs.declared.sure.Absent.TheVariants.{Nothing};
-ghost use Rattle.tk_io.specs.Shelf.{Opens, Reads, dash};
+ghost use Rattle.tk_io.specs.Shelf.{Opens, Reads, standard_input};
 ghost use Rattle.tk_io.specs.Desk.{new_desk};
 ghost use Rattle.tk_io.specs.SureShelf.{sure_means, sure_open, OpensSure, ReadsSure};
 
@@ -58,7 +58,7 @@ impl Shelf for SureShelf {
         ensures never { result ≡ Ok tt }
         ensures exactly { OpensSure name.now self.old self.new }
     {
-        match self.desk.place_of(name) {
+        match self.desk.find(name) {
             Some(place) => {
                 self.desk.open_at(place);
                 self.absent = Absent::Nothing;
@@ -74,10 +74,15 @@ impl Shelf for SureShelf {
     /// Hands out as much as the buffer and the file allow. Never fails.
     fn read(&mut self, buf: &mut [u8]) -> Result<usize, Failed>
         requires { (name : List ℕ) × (sure_open self.old.desk self.old.absent name ≡ true) }
-        ensures reads { (name : List ℕ) → sure_open self.old.desk self.old.absent name ≡ true → Reads name (sure_means self.old) (sure_means self.new) result buf.new }
+        ensures reads { (name : List ℕ)
+            → sure_open self.old.desk self.old.absent name ≡ true
+            → Reads name (sure_means self.old) (sure_means self.new) result buf.new }
         ensures never { IsOk result }
-        ensures exactly { IfOk result (λ n. IfSome self.old.desk.current (λ place. ReadsSure place n self.old self.new buf.old buf.new)) }
-        ensures missing { self.old.desk.current ≡ None → (result ≡ Ok 0) × (self.new ≡ self.old) × (buf.new ≡ buf.old) }
+        ensures exactly { IfOk result (λ n.
+            IfSome self.old.desk.current (λ place.
+            ReadsSure place n self.old self.new buf.old buf.new)) }
+        ensures missing { self.old.desk.current ≡ None
+            → (result ≡ Ok 0) × (self.new ≡ self.old) × (buf.new ≡ buf.old) }
     {
         let most = buf.len();
         match self.desk.current() {
@@ -89,7 +94,7 @@ impl Shelf for SureShelf {
 
 // What is open where the shelf doesn't have the name.
 fn absent_of(name: &str) -> Absent
-    ensures { result ≡ (if bytes_eq name.now dash then Absent.Input else Absent.Other) }
+    ensures { result ≡ (if bytes_eq name.now standard_input then Absent.Input else Absent.Other) }
 {
     if name == "-" {
         Absent::Input

@@ -14,7 +14,7 @@ fn file(alloc: Global, name: &str, bytes: &[u8]) -> Result<MemFile, AllocError> 
     })
 }
 
-fn files(alloc: Global) -> Result<Vec<MemFile>, AllocError> {
+fn all_files(alloc: Global) -> Result<Vec<MemFile>, AllocError> {
     let mut files = Vec::new(alloc);
     files.push(file(alloc, "p.tex", b"\\draw (0,0);")?)?;
     files.push(file(alloc, "-", b"abcdefgh")?)?;
@@ -39,7 +39,7 @@ fn reads_whole_files(rt: HostRuntime) -> Result<(), Fail> {
         ("q.tex", 5, &[], Err(ReadRefusal::Failed)),
     ];
     for (name, most, failing, want) in rows {
-        let files = files(alloc)?;
+        let files = all_files(alloc)?;
         assert!(rt; names_differ(&files));
         assert!(rt; most >= 1);
         let failing = Vec::from_slice(alloc, failing)?;
@@ -70,23 +70,17 @@ fn reads<H: Shelf>(alloc: Global, shelf: &mut H, name: &str, want: &[u8]) -> boo
 #[test]
 fn goes_on_with_standard_input(rt: HostRuntime) -> Result<(), Fail> {
     let alloc = rt.alloc();
-    let files = files(alloc)?;
+    let files = all_files(alloc)?;
     assert!(rt; names_differ(&files));
     let mut shelf = MemShelf::new(alloc, files, 3, Vec::new(alloc))?;
     let mut buf = [0; 4];
+    let mut one = [0; 1];
     assert!(rt; read_some(&mut shelf, "-", &mut buf) == Ok(3));
-    assert!(rt; read_some(&mut shelf, "-", &mut buf[..1]) == Ok(1));
+    assert!(rt; read_some(&mut shelf, "-", &mut one) == Ok(1));
     assert!(rt; reads(alloc, &mut shelf, "p.tex", b"\\draw (0,0);"));
     assert!(rt; reads(alloc, &mut shelf, "-", b"efgh"));
     assert!(rt; reads(alloc, &mut shelf, "-", b""));
-    Ok(())
-}
-
-#[test]
-fn is_sure(rt: HostRuntime) -> Result<(), Fail> {
-    let alloc = rt.alloc();
-    let mut shelf = SureShelf::new(files(alloc)?);
-    let mut buf = [0; 4];
+    let mut shelf = SureShelf::new(all_files(alloc)?);
     assert!(rt; read_some(&mut shelf, "-", &mut buf) == Ok(4));
     assert!(rt; reads(alloc, &mut shelf, "p.tex", b"\\draw (0,0);"));
     assert!(rt; reads(alloc, &mut shelf, "-", b"efgh"));
@@ -141,25 +135,5 @@ fn adapts_the_host(rt: HostRuntime) -> Result<(), Fail> {
     assert!(rt; shelf.open("-").is_ok());
     assert!(rt; write_all(&mut OutSink::new(&rt), b"out\n").is_ok());
     assert!(rt; write_all(&mut ErrSink::new(rt.stderr()), b"err\n").is_ok());
-    Ok(())
-}
-
-#[test]
-fn limits_an_input(rt: HostRuntime) -> Result<(), Fail> {
-    let alloc = rt.alloc();
-    for (size, fits) in [(16_777_216, true), (16_777_217, false)] {
-        let bytes = vec![in alloc; b'a'; size]?;
-        let mut files = Vec::new(alloc);
-        files.push(MemFile {
-            name: String::from_str(alloc, "long")?,
-            bytes,
-        })?;
-        assert!(rt; names_differ(&files));
-        let mut shelf = MemShelf::new(alloc, files, 1_000_000, Vec::new(alloc))?;
-        match read_all(alloc, &mut shelf, "long") {
-            Ok(bytes) => assert!(rt; fits && bytes.len() == size),
-            Err(refusal) => assert!(rt; !fits && refusal == ReadRefusal::TooLong),
-        }
-    }
     Ok(())
 }

@@ -1,9 +1,17 @@
-use Rattle.std.proofs.Common.{refl, sym}
-use Rattle.tikzsvg.specs.Answers.{renders, usage}
+use Rattle.std.proofs.Common.{refl, sym, subst}
+use Rattle.tikzsvg.specs.declared.program.Status.TheVariants.{Usage}
+use Rattle.tikzsvg.specs.Run.{world}
+use Rattle.tikzsvg.specs.Endings.{EndsAsAsked}
 use Rattle.tikzsvg.proofs.program.answer.Goals as goal
 
-pub returns-in-Some-clause-status : goal.returns-in-Some-clause-status
-returns-in-Some-clause-status g c = renders c.in-Some.file.now (sym c.in-Some.ensures) c.render.ensures.status
+pub returns-in-Some : goal.returns-in-Some
+returns-in-Some g c =
+    let before = world (g.H.Shelf.meaning c.args.shelf.now) (g.O.Sink.meaning c.args.out.now) (g.E.Sink.meaning c.args.err.now) in
+    let after = world (g.H.Shelf.meaning c.obey.new.shelf) (g.O.Sink.meaning c.obey.new.out) (g.E.Sink.meaning c.obey.new.err) in
+    subst (λ asked. EndsAsAsked asked before after c.obey.result) c.in-Some.ensures.command c.obey.ensures
 
-pub returns-in-None-clause-status : goal.returns-in-None-clause-status
-returns-in-None-clause-status g c = usage (sym c.in-None.ensures) (record { unopened = refl; says = c.say.ensures; untouched = refl })
+pub returns-in-None : goal.returns-in-None
+returns-in-None g c =
+    let before = world (g.H.Shelf.meaning c.args.shelf.now) (g.O.Sink.meaning c.args.out.now) (g.E.Sink.meaning c.args.err.now) in
+    let after = world (g.H.Shelf.meaning c.args.shelf.now) (g.O.Sink.meaning c.args.out.now) (g.E.Sink.meaning c.say.new.err) in
+    subst (λ asked. EndsAsAsked asked before after Usage) c.in-None.ensures.command (refl, record { unopened = refl; says = c.say.ensures; untouched = refl })

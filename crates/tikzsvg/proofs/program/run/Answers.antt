@@ -1,11 +1,12 @@
 use Rattle.std.proofs.Common.{ℕ, sym, subst, map, string_bytes, Global}
+use Rattle.tikzsvg.specs.Words.{command_of}
 use Rattle.tikzsvg.specs.Run.{world, Runs}
 use Rattle.tikzsvg.proofs.Statuses.{tag_is, run_of}
 use Rattle.tikzsvg.proofs.program.run.Goals as goal
 
 pub returns : goal.returns
 returns g c =
-    let words = map (string_bytes {Z = Global}) c.args.words.now in
+    let asked = command_of (map (string_bytes {Z = Global}) c.args.words.now) in
     let before = world (g.H.Shelf.meaning c.args.shelf.now) (g.O.Sink.meaning c.args.out.now) (g.E.Sink.meaning c.args.err.now) in
     let after = world (g.H.Shelf.meaning c.answer.new.shelf) (g.O.Sink.meaning c.answer.new.out) (g.E.Sink.meaning c.answer.new.err) in
-    subst (λ (n : ℕ). Runs words before after n) (sym (tag_is c.answer.result)) (run_of words before after c.answer.result c.answer.ensures.status c.answer.ensures.one_file)
+    subst (λ (n : ℕ). Runs asked before after n) (sym (tag_is c.answer.result)) (run_of c.a_source_has_one_outcome.ensures asked before after c.answer.result c.answer.ensures)

@@ -2,7 +2,7 @@ use Rattle.std.proofs.Common.{◌≡◌, ◌+◌, List, ℕ, length, take, drop,
 use Rattle.std.proofs.lemmas.List.{length-append, length-take, length-drop}
 use Rattle.tk_io.specs.Shelf.{Reads}
 use Rattle.tk_io.proofs.SoFar.{SoFar}
-use Rattle.tk_io.proofs.ReadSteps.{appended, SoFar-more, ReadsAll-end, ReadsAll-failed, ReadsAll-no_memory, ReadsAll-error}
+use Rattle.tk_io.proofs.ReadSteps.{appended, SoFar-more, ReadsAll-end, ReadsAll-failed, ReadsAll-no_memory, ReadsAll-too_long, ReadsAll-error}
 use Rattle.tk_io.proofs.reading.read_all.Goals as goal
 
 pub returns-in_err-count : goal.returns-in_err-count
@@ -27,7 +27,7 @@ loop-buffer-preserved g c =
     let room : length c.read.new.buf ≡ c.min-room.result = c.read.auto.buf ∙ omega (arith, length-take c.min-room.result c.loop-buffer.buffer) in
     record {
       so_far = subst (λ (w : List ℕ). SoFar c.args.name.now (g.H.Shelf.meaning c.args.shelf.now) w (g.H.Shelf.meaning c.read.new.self)) (sym bytes)
-          (SoFar-more _ _ _ _ _ _ _ so_far read (omega (arith, room, read.bound)));
+          (SoFar-more _ _ _ _ _ _ _ so_far read c.if-count-eq0.false (omega (arith, room, read.bound)));
       most = omega (arith, len, room, read.bound);
       wide = omega (arith, room, length-append c.read.new.buf (drop c.min-room.result c.loop-buffer.buffer), length-drop c.min-room.result c.loop-buffer.buffer);
     }
@@ -38,4 +38,7 @@ returns-in_err-extend_from_slice g c =
     let read = c.in_ok-count.ensures c.args.name.now so_far.is_open in
     let room : length c.read.new.buf ≡ c.min-room.result = c.read.auto.buf ∙ omega (arith, length-take c.min-room.result c.loop-buffer.buffer) in
     ReadsAll-error _ _ _ _ _ _ c.from_residual-in_err-extend_from_slice.ensures.1
-    (ReadsAll-no_memory _ _ _ _ (SoFar-more _ _ _ _ _ _ _ so_far read (omega (arith, room, read.bound))))
+    (ReadsAll-no_memory _ _ _ _ (SoFar-more _ _ _ _ _ _ _ so_far read c.if-count-eq0.false (omega (arith, room, read.bound))))
+
+pub returns : goal.returns
+returns g c = ReadsAll-too_long _ _ _ _ c.loop-buffer.invariant.so_far (omega arith)

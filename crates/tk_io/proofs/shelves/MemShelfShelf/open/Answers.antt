@@ -1,6 +1,6 @@
 use Rattle.std.proofs.Common.{◌≡◌, length, true, Some, None, Ok, sym, ap, subst, ◌∙◌}
 use Rattle.tk_io.specs.Shelf.{Opens}
-use Rattle.tk_io.specs.Desk.{OnDesk, place_of, opened_at}
+use Rattle.tk_io.specs.Desk.{OnDesk, find_file, opened_at}
 use Rattle.tk_io.specs.Stock.{Stock, stock_means}
 use Rattle.tk_io.specs.StockView.{shown_stock}
 use Rattle.tk_io.proofs.DeskFiles.{named}
@@ -25,7 +25,7 @@ returns-then-contains-clause-exactly c =
 pub open_at-requires : goal.open_at-requires
 open_at-requires c =
     let there = sym c.in-Some.ensures.place in
-    ap (place_of c.close.new.self) (named c.close.new.self c.in-Some.place c.args.name.now there) ∙ there
+    ap (find_file c.close.new.self) (named c.close.new.self c.in-Some.place c.args.name.now there) ∙ there
 
 pub returns-clause-opens : goal.returns-clause-opens
 returns-clause-opens c =

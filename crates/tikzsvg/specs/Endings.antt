@@ -1,30 +1,32 @@
--- The answers of a run, each with its status.
-use Rattle.std.specs.Prelude.{◌≡◌, ◌⊎◌, ℕ, ◌<◌, List, length, take, Some, None}
+-- How a run ends.
+use Rattle.std.specs.Prelude.{◌≡◌, ◌⊎◌, ℕ, ◌<◌, List, length, take, Option, Some, None}
 use Rattle.tk_io.specs.Causes.{Rose}
 use Rattle.tk_io.specs.Sink.{Sunk, Takes}
 use Rattle.tikzsvg.specs.declared.document.NoDocument.{NoDocument}
 use Rattle.tikzsvg.specs.declared.document.NoDocument.TheVariants as causes
 use Rattle.tikzsvg.specs.declared.program.Status.{Status}
 use Rattle.tikzsvg.specs.declared.program.Status.TheVariants as statuses
-use Rattle.tikzsvg.specs.Words.{Render, command_of}
+use Rattle.tikzsvg.specs.Words.{Command, Render}
 use Rattle.tikzsvg.specs.Lines.{placed_line, too_long_line, read_fault_line, write_fault_line, out_of_memory_line}
-use Rattle.tikzsvg.specs.Run.{World, Says, Done, HasFault, IsTooLong, IsUsage, ReadFails, WriteFails, LacksMemory}
+use Rattle.tikzsvg.specs.Run.{World, Says, Done, HasFault, IsTooLong, IsUsage, ReadFails, WriteFails, LacksMemory, UsesOne}
 
--- what `render` of a file answers
-pub data Renders (file : List ℕ) (before after : World) : Status → Type 0 where
-  done : Done file before after → Renders file before after statuses.Done
-  fault : HasFault file before after → Renders file before after statuses.Fault
-  too_long : IsTooLong file before after → Renders file before after statuses.Fault
-  read_fault : ReadFails file before after → Renders file before after statuses.ReadFault
-  write_fault : WriteFails file before after → Renders file before after statuses.WriteFault
-  out_of_memory : LacksMemory before after → Renders file before after statuses.OutOfMemory
+-- how `render` of a file ends
+pub data Ends (file : List ℕ) (budget : ℕ) (before after : World) : Status → Type 0 where
+  done : Done file budget before after → Ends file budget before after statuses.Done
+  fault : HasFault file budget before after → Ends file budget before after statuses.Fault
+  too_long : IsTooLong file before after → Ends file budget before after statuses.Fault
+  read_fault : ReadFails file before after → Ends file budget before after statuses.ReadFault
+  write_fault :
+      WriteFails file budget before after → Ends file budget before after statuses.WriteFault
+  out_of_memory : LacksMemory before after → Ends file budget before after statuses.OutOfMemory
 
--- what the words are answered
-pub data Answers (words : List (List ℕ)) (before after : World) : Status → Type 0 where
-  renders : {status : Status} (file : List ℕ) → command_of words ≡ Some (Render file) → Renders file before after status → Answers words before after status
-  usage : command_of words ≡ None → IsUsage before after → Answers words before after statuses.Usage
+-- how a run ends that does what is asked for
+abbrev pub EndsAsAsked : Option Command → World → World → Status → Type 0
+EndsAsAsked None before after status = (status ≡ statuses.Usage) × IsUsage before after
+EndsAsAsked (Some (Render file budget)) before after status =
+    Ends file budget before after status × UsesOne file before.shelf after.shelf
 
--- ---- parts of an answer
+-- ---- parts of an end
 
 -- `out` took a proper part of a document, and failed
 pub record Stops (document : List ℕ) (out after : Sunk) : Type 0 where
@@ -36,7 +38,8 @@ pub record Stops (document : List ℕ) (out after : Sunk) : Type 0 where
 -- a document was written, or `out` failed, which `err` is told
 abbrev pub Delivers : List ℕ → Sunk → Sunk → Sunk → Sunk → Status → Type 0
 Delivers document out out' err err' statuses.Done = Takes out out' document × (err' ≡ err)
-Delivers document out out' err err' statuses.WriteFault = Stops document out out' × Says err err' write_fault_line
+Delivers document out out' err err' statuses.WriteFault =
+    Stops document out out' × Says err err' write_fault_line
 Delivers document out out' err err' statuses.Fault = ⊥
 Delivers document out out' err err' statuses.Usage = ⊥
 Delivers document out out' err err' statuses.ReadFault = ⊥
@@ -58,4 +61,6 @@ status_of_cause causes.OutOfMemory = statuses.OutOfMemory
 
 -- a cause is told with its status, or memory runs out for its line
 abbrev pub Reports : List ℕ → NoDocument → Sunk → Sunk → Status → Type 0
-Reports file cause err err' status = ((status ≡ status_of_cause cause) × Says err err' (line_of_cause file cause)) ⊎ ((status ≡ statuses.OutOfMemory) × Says err err' out_of_memory_line)
+Reports file cause err err' status =
+    ((status ≡ status_of_cause cause) × Says err err' (line_of_cause file cause))
+    ⊎ ((status ≡ statuses.OutOfMemory) × Says err err' out_of_memory_line)
