@@ -44,7 +44,7 @@ impl Input {
     ) -> Result<(), Refusal>
         ensures gives { Gives (λ _. stream units.new.used self.new) result
             (after_next units.old.budget store.now.top.macros code (is_char wanted)
-                (stream units.old.used self.old)) }
+            (stream units.old.used self.old)) }
         ensures end { OnOk result (self.new.end ≡ self.old.end) }
         ensures budget { units.new.budget ≡ units.old.budget }
         ensures used { OnOk result (units.old.used ≤ units.new.used) }
@@ -65,7 +65,7 @@ impl Input {
     ) -> Result<(), Refusal>
         ensures gives { Gives (λ _. stream units.new.used self.new) result
             (after_letters units.old.budget store.now.top.macros code text.now
-                (stream units.old.used self.old)) }
+            (stream units.old.used self.old)) }
         ensures end { OnOk result (self.new.end ≡ self.old.end) }
         ensures budget { units.new.budget ≡ units.old.budget }
         ensures used { OnOk result (units.old.used ≤ units.new.used) }

@@ -76,9 +76,9 @@ impl Input {
 fn pay_for(units: &mut Units, arguments: &[Vec<Tok>], body: &[Tok], at: u32) -> Result<(), Fault>
     ensures pays { MatchResult result
         (λ _. pay units.old.budget units.old.used
-            (cost_of (with_arguments (texts_of arguments.now) body.now)) at ≡ Ok units.new.used)
+        (cost_of (with_arguments (texts_of arguments.now) body.now)) at ≡ Ok units.new.used)
         (λ fault. pay units.old.budget units.old.used
-            (cost_of (with_arguments (texts_of arguments.now) body.now)) at ≡ Err fault) }
+        (cost_of (with_arguments (texts_of arguments.now) body.now)) at ≡ Err fault) }
     ensures budget { units.new.budget ≡ units.old.budget }
 {
     // The budget is a number below 2^64, so that a cost past it is too much.
@@ -160,7 +160,7 @@ pub fn expand_all(
 ) -> Result<Vec<Tok>, Refusal>
     ensures gives { (end : ℕ) → Gives (λ text. stream units.new.used (unread text.items end)) result
         (full units.old.budget store.now.top.macros
-            (stream units.old.used (unread list.items end))) }
+        (stream units.old.used (unread list.items end))) }
     ensures budget { units.new.budget ≡ units.old.budget }
     ensures used { OnOk result (units.old.used ≤ units.new.used) }
 {

@@ -125,12 +125,12 @@ impl Input {
     pub fn until(&mut self, stop: char) -> Result<Option<Vec<Tok>>, AllocError>
         ensures gives { IfOk result
             (λ found. option_map (λ front. cut front.items self.new.rest) found
-                ≡ before_char stop self.old.rest) }
+            ≡ before_char stop self.old.rest) }
         ensures none { IfOk result (λ found. IfNone found (self.new ≡ self.old)) }
         ensures end { OnOk result (self.new.end ≡ self.old.end) }
         ensures shorter { IfOk result
             (λ found. IfSome found (λ front.
-                length front.items + length self.new.rest < length self.old.rest)) }
+            length front.items + length self.new.rest < length self.old.rest)) }
     {
         self.before(Stop::Char(stop))
     }
@@ -140,12 +140,12 @@ impl Input {
     pub fn group(&mut self) -> Result<Option<Vec<Tok>>, AllocError>
         ensures gives { IfOk result
             (λ found. option_map (λ front. cut front.items self.new.rest) found
-                ≡ group_of self.old.rest) }
+            ≡ group_of self.old.rest) }
         ensures none { IfOk result (λ found. IfNone found (self.new ≡ self.old)) }
         ensures end { OnOk result (self.new.end ≡ self.old.end) }
         ensures shorter { IfOk result
             (λ found. IfSome found (λ front.
-                length front.items + length self.new.rest < length self.old.rest)) }
+            length front.items + length self.new.rest < length self.old.rest)) }
     {
         self.before(Stop::Close)
     }
@@ -182,12 +182,12 @@ impl Input {
     fn before(&mut self, stop: Stop) -> Result<Option<Vec<Tok>>, AllocError>
         ensures gives { IfOk result
             (λ found. option_map (λ front. cut front.items self.new.rest) found
-                ≡ before_stop stop self.old.rest) }
+            ≡ before_stop stop self.old.rest) }
         ensures none { IfOk result (λ found. IfNone found (self.new ≡ self.old)) }
         ensures end { OnOk result (self.new.end ≡ self.old.end) }
         ensures shorter { IfOk result
             (λ found. IfSome found (λ front.
-                length front.items + length self.new.rest < length self.old.rest)) }
+            length front.items + length self.new.rest < length self.old.rest)) }
     {
         if let Some(front) = self.before_in_first(stop)? {
             return Ok(Some(front));
@@ -204,7 +204,7 @@ impl Input {
     fn before_in_first(&mut self, stop: Stop) -> Result<Option<Vec<Tok>>, AllocError>
         ensures gives { IfOk result
             (λ found. IfSome found (λ front.
-                before_stop stop self.old.rest ≡ Some (cut front.items self.new.rest))) }
+            before_stop stop self.old.rest ≡ Some (cut front.items self.new.rest))) }
         ensures none { IfOk result (λ found. IfNone found (self.new ≡ self.old)) }
         ensures end { OnOk result (self.new.end ≡ self.old.end) }
     {

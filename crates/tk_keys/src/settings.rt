@@ -38,8 +38,7 @@ impl State {
             (define (given_of ev self.old) kind (env_of self.old) (stream_of self.old input.old)) }
         ensures kept { OnOk result (Keeps self.old self.new) }
     {
-        let definition =
-            read_definition(self.alloc, kind, input, &self.store, &mut self.units)?;
+        let definition = read_definition(self.alloc, kind, input, &self.store, &mut self.units)?;
         self.store.set_macro(definition.word, definition.value)?;
         Ok(())
     }

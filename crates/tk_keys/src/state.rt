@@ -42,11 +42,11 @@ impl Model for State {
     ghost coded = { Prim.hlevel (codes, map.code) };
 
     ghost view = { λ s. record {
-        names = s.names;
-        font = s.font;
-        budget = s.units.budget;
-        levels = s.store;
-        units = s.units.used;
+      names = s.names;
+      font = s.font;
+      budget = s.units.budget;
+      levels = s.store;
+      units = s.units.used;
     } };
 }
 

@@ -51,6 +51,6 @@ picture_ends given now at list inside new env pic p same first none name within 
     then_is (after_name Unbuilt (codes "tikzpicture") list) whole inside name
     ∙ then_is (level at first_env) run env (ap (level at) (sym first) ∙ within)
     ∙ then_is (commands given (block (A_picture at) (configuration env first_picture inside))) last p
-        (ap (λ (start : Picture). commands given (block (A_picture at) (configuration env start inside))) (sym none)
-        ∙ ap (λ (g : Given). commands g (block (A_picture at) (configuration env pic inside))) (sym same)
-        ∙ done)
+    (ap (λ (start : Picture). commands given (block (A_picture at) (configuration env start inside))) (sym none)
+    ∙ ap (λ (g : Given). commands g (block (A_picture at) (configuration env pic inside))) (sym same)
+    ∙ done)

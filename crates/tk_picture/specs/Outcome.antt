@@ -27,6 +27,6 @@ document_of ev budget end ts = document (given_for ev budget ts) (unread (map (t
 -- of its tokens. Expressions have the answers of `Evaluates`, of which each has one.
 pub data IsOutcome (budget : ℕ) (source : List ℕ) : Answer Compiled → Type 0 where
   of_tokens : {tokens : Answer (List Token)} {ev : Evaluation}
-    → Lexes source tokens
-    → IsEvaluation ev
-    → IsOutcome budget source (tokens >>= document_of ev budget (length source))
+      → Lexes source tokens
+      → IsEvaluation ev
+      → IsOutcome budget source (tokens >>= document_of ev budget (length source))

@@ -26,11 +26,7 @@ const CENTIMETRE: i64 = 1_864_679;
 impl Drawer {
     /// Reads a coordinate, whose first token was taken.
     #[tactic(auto, unfolding(crate::specs::Configurations::must_be, crate::specs::Coordinates::point))]
-    pub(crate) fn point(
-        &mut self,
-        input: &mut Input,
-        first: Option<Tok>,
-    ) -> Result<Point, Refusal>
+    pub(crate) fn point(&mut self, input: &mut Input, first: Option<Tok>) -> Result<Point, Refusal>
         ensures gives { (segs : List ASeg) → Gives (λ point. reached_of point self.new segs input.new) result
             (point (given_to self.old) (lookahead_of first self.old segs input.old)) }
         ensures pays { OnOk result (OnlyPays self.old self.new) }

@@ -12,9 +12,7 @@ ghost use Rattle.tk_picture.specs.Views.{given_to, picture_of, configuration_of,
 
 use std::alloc::AllocError;
 use tk_expand::Input;
-use tk_item::{
-    Cap, Dashes, Frame, Item, Items, Join, Rgb, Seg, Segs, Stroke, half_width, widen,
-};
+use tk_item::{Cap, Dashes, Frame, Item, Items, Join, Rgb, Seg, Segs, Stroke, half_width, widen};
 use tk_keys::State;
 use tk_num::Scaled;
 use tk_token::{Code, Fault, Refusal, Tok};

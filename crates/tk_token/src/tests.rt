@@ -197,7 +197,11 @@ fn searches_end_outside_braces(rt: HostRuntime) -> Result<(), Fail> {
         let found = first_outside(toks.as_slice(), *sought);
         assert_eq!(rt; found.map(|(front, _)| front.len()), *before, "{text}");
         if let Some((front, rest)) = found {
-            assert_eq!(rt; rest.len(), toks.len() - front.len(), "{text}");
+            assert_eq!(rt;
+                toks.len().checked_sub(front.len()),
+                Some(rest.len()),
+                "{text}"
+            );
         }
     }
     let spaced = toks(rt.alloc(), "  a b ")?;
