@@ -3,5 +3,7 @@
 
 mod settings;
 mod state;
+#[cfg(test)]
+mod tests;
 
 pub use state::State;

@@ -7,6 +7,8 @@ mod drawer;
 mod laws;
 mod path;
 mod picture;
+#[cfg(test)]
+mod tests;
 
 pub use laws::{
     a_source_has_one_outcome, commands_are_never_stuck, commands_are_their_step,

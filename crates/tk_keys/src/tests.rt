@@ -1,0 +1,93 @@
+//! What no clause says: that the calls succeed with ample memory, and some values worked out by hand.
+
+use crate::State;
+use std::alloc::Global;
+use std::process::Abort;
+use std::test::Fail;
+use tk_expand::Input;
+use tk_expr::FontUnits;
+use tk_num::Scaled;
+use tk_store::Body;
+use tk_token::{Code, Fault, Kind, Lexed, Refusal, lex};
+
+fn scaled(rt: &impl Abort, sp: i64) -> Scaled {
+    match Scaled::new(sp) {
+        Some(number) => number,
+        None => {
+            assert!(rt; false, "{sp}");
+            Scaled::default()
+        }
+    }
+}
+
+/// The state before a run over a text, and the text.
+fn before(
+    rt: &impl Abort,
+    alloc: Global,
+    text: &str,
+    budget: u64,
+) -> Result<(State, Input), Refusal> {
+    let bytes = text.as_bytes();
+    assert!(rt; bytes.len() <= 1_000);
+    let font = FontUnits {
+        em: scaled(rt, 655_360),
+        ex: scaled(rt, 281_805),
+    };
+    let Lexed { toks, names } = lex(alloc, bytes)?;
+    let state = State::new(alloc, names, font, budget)?;
+    let input = Input::new(alloc, Body::from_vec(toks)?, 777)?;
+    Ok((state, input))
+}
+
+/// Takes the next token and runs the setting that it begins.
+fn runs(state: &mut State, input: &mut Input) -> Result<bool, Refusal> {
+    match state.next(input)? {
+        Some(tok) => state.run_one(tok, input),
+        None => Ok(false),
+    }
+}
+
+fn run(rt: &impl Abort, alloc: Global) -> Result<(), Refusal> {
+    let text = r"\def\x{ab}\newcommand\y[1]{#1#1}\x \y{-}cycle\z";
+    let (mut state, mut input) = before(rt, alloc, text, 9)?;
+    assert!(rt; runs(&mut state, &mut input)?);
+    state.open(5)?;
+    assert!(rt; runs(&mut state, &mut input)?);
+    assert_eq!(rt; state.used(), 0);
+    // `\x` has a text of 2 tokens, and costs 3 units.
+    let first = state.next_solid(&mut input)?;
+    assert_eq!(rt; first.map(|tok| tok.kind), Some(Kind::Char('a')));
+    assert_eq!(rt; state.used(), 3);
+    state.expect_next(&mut input, Code::Unbuilt, 'b')?;
+    // `\y{-}` has one of 2 tokens too.
+    state.expect_letters(&mut input, Code::Unbuilt, b"--cycle")?;
+    assert_eq!(rt; state.used(), 6);
+    // A word that has no macro is a token, and no setting.
+    assert!(rt; !runs(&mut state, &mut input)?);
+    assert!(rt; state.next(&mut input)?.is_none());
+    assert_eq!(rt; state.names().word(0), Some("def"));
+    assert_eq!(rt; state.font_units().ex.sp(), 281_805);
+    // Behind its level `\y` is a word without a macro, so that only `\x` costs. The words have the same numbers as above.
+    state.close_uncounted();
+    let Lexed { toks, .. } = lex(alloc, br"\def\x\newcommand\y")?;
+    let expanded = state.expand(toks)?;
+    assert_eq!(rt; expanded.len(), 5);
+    assert_eq!(rt; state.used(), 9);
+    for _ in 0..128 {
+        state.open(7)?;
+    }
+    let levels = Fault {
+        code: Code::Levels,
+        at: 8,
+    };
+    assert_eq!(rt; state.open(8).err(), Some(levels));
+    Ok(())
+}
+
+#[test]
+fn a_run_has_its_state(rt: HostRuntime) -> Result<(), Fail> {
+    match run(&rt, rt.alloc()) {
+        Ok(()) => Ok(()),
+        Err(_) => Err("a run was refused".into()),
+    }
+}
