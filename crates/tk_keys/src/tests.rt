@@ -47,32 +47,23 @@ fn runs(state: &mut State, input: &mut Input) -> Result<bool, Refusal> {
     }
 }
 
-fn run(rt: &impl Abort, alloc: Global) -> Result<(), Refusal> {
-    let text = r"\def\x{ab}\newcommand\y[1]{#1#1}\x \y{-}cycle\z";
-    let (mut state, mut input) = before(rt, alloc, text, 9)?;
-    assert!(rt; runs(&mut state, &mut input)?);
-    state.open(5)?;
-    assert!(rt; runs(&mut state, &mut input)?);
-    assert_eq!(rt; state.used(), 0);
+/// Takes what stands next, as text that is read through expansion.
+fn reads(rt: &impl Abort, state: &mut State, input: &mut Input) -> Result<(), Refusal> {
     // `\x` has a text of 2 tokens, and costs 3 units.
-    let first = state.next_solid(&mut input)?;
+    let first = state.next_solid(input)?;
     assert_eq!(rt; first.map(|tok| tok.kind), Some(Kind::Char('a')));
     assert_eq!(rt; state.used(), 3);
-    state.expect_next(&mut input, Code::Unbuilt, 'b')?;
+    state.expect_next(input, Code::Unbuilt, 'b')?;
     // `\y{-}` has one of 2 tokens too.
-    state.expect_letters(&mut input, Code::Unbuilt, b"--cycle")?;
+    state.expect_letters(input, Code::Unbuilt, b"--cycle")?;
     assert_eq!(rt; state.used(), 6);
-    // A word that has no macro is a token, and no setting.
-    assert!(rt; !runs(&mut state, &mut input)?);
-    assert!(rt; state.next(&mut input)?.is_none());
-    assert_eq!(rt; state.names().word(0), Some("def"));
-    assert_eq!(rt; state.font_units().ex.sp(), 281_805);
-    // Behind its level `\y` is a word without a macro, so that only `\x` costs. The words have the same numbers as above.
+    Ok(())
+}
+
+/// Opens as many levels as there can be, and one more.
+fn opens(rt: &impl Abort, state: &mut State) -> Result<(), Refusal> {
+    state.open(7)?;
     state.close_uncounted();
-    let Lexed { toks, .. } = lex(alloc, br"\def\x\newcommand\y")?;
-    let expanded = state.expand(toks)?;
-    assert_eq!(rt; expanded.len(), 5);
-    assert_eq!(rt; state.used(), 9);
     for _ in 0..128 {
         state.open(7)?;
     }
@@ -82,6 +73,28 @@ fn run(rt: &impl Abort, alloc: Global) -> Result<(), Refusal> {
     };
     assert_eq!(rt; state.open(8).err(), Some(levels));
     Ok(())
+}
+
+/// Expands a list whose word has the same number as in the text.
+fn expands(rt: &impl Abort, alloc: Global, state: &mut State) -> Result<(), Refusal> {
+    let Lexed { toks, .. } = lex(alloc, br"\def\x")?;
+    let expanded = state.expand(toks)?;
+    assert_eq!(rt; expanded.len(), 3);
+    assert_eq!(rt; state.used(), 9);
+    Ok(())
+}
+
+fn run(rt: &impl Abort, alloc: Global) -> Result<(), Refusal> {
+    let text = r"\def\x{ab}\newcommand\y[1]{#1#1}\x \y{-}cycle\z";
+    let (mut state, mut input) = before(rt, alloc, text, 9)?;
+    assert!(rt; runs(&mut state, &mut input)? && runs(&mut state, &mut input)?);
+    reads(rt, &mut state, &mut input)?;
+    // A word that has no macro is a token, and no setting.
+    assert!(rt; !runs(&mut state, &mut input)?);
+    assert_eq!(rt; state.names().word(0), Some("def"));
+    assert_eq!(rt; state.font_units().ex.sp(), 281_805);
+    expands(rt, alloc, &mut state)?;
+    opens(rt, &mut state)
 }
 
 #[test]
