@@ -26,7 +26,7 @@ use Rattle.tk_keys.proofs.Reading.{Within, TokenWithin, spaces_at, spaces_within
 use Rattle.tk_keys.proofs.Setting.{SetAt, one_setting_at}
 use Rattle.tk_keys.proofs.Standing.{then_at, if_at, weaker_at, ok_at}
 use Rattle.tk_picture.specs.declared.Compiled.{Compiled}
-use Rattle.tk_picture.specs.Commands.{Opener, A_picture, A_group, Beginning, Begins_path, Opens_group, Closes_group, Ends_environment, Begins_other, beginning_of, Block, block, CommandFlow, with_path, with_setting, set_or_unbuilt, command, command_at, commands_step, block_work, commands}
+use Rattle.tk_picture.specs.Commands.{BlockOpener, A_picture, A_group, Beginning, Begins_path, Opens_group, Closes_group, Ends_environment, Begins_other, beginning_of, Block, block, CommandFlow, with_path, with_setting, set_or_unbuilt, command, command_at, commands_step, block_work, commands}
 use Rattle.tk_picture.specs.Configurations.{Configuration, configuration, Progress, progress, progress_at, with_progress, stream_at, Lookahead, ahead_of}
 use Rattle.tk_picture.specs.Documents.{is_word, compiled, nothing_after, picture_behind, document}
 use Rattle.tk_picture.specs.Flow.{Flow, Goes_on, Finishes, go_on}
@@ -72,7 +72,7 @@ module _ (P : ℕ → Type 0) (given : Given) (begin : P 0) (evaluates : Evaluat
   set_at at c (Some set) p h = record { fell = h.fell; at = record { bodies = h.bodies; rest = h.rest; end = h.end } }
 
   module _ (rec : Block → Answer Progress) (h : (b : Block) → At P given b.start → Stands P (Returns P given b.start) (rec b)) where
-    command_moves : (b : Beginning) (t : Tok) (opener : Opener) (c : Configuration) → P t.at → At P given c → Stands P (PartAt c) (command given rec b t opener c)
+    command_moves : (b : Beginning) (t : Tok) (opener : BlockOpener) (c : Configuration) → P t.at → At P given c → Stands P (PartAt c) (command given rec b t opener c)
     command_moves Begins_path t opener c p k =
         then_at P (λ (e : Env). BodiesAt P e.macros) (PartAt c) (level t.at c.env) _ (level_at t.at c.env p k.bodies) (λ inside m.
         then_at P (Returns P given c) (PartAt c) (path given t.at (record c { env = inside })) _ (weaker_at P (Returns P given (record c { env = inside })) (Returns P given c) (path given t.at (record c { env = inside })) (from_inside c inside) (path_at P given begin evaluates t.at (record c { env = inside }) (record { bodies = m; rest = k.rest; end = k.end }))) (λ q r.
@@ -90,11 +90,11 @@ module _ (P : ℕ → Type 0) (given : Given) (begin : P 0) (evaluates : Evaluat
     command_moves Begins_other t opener c p k =
         then_at P (λ set. IfSome set (SetAt P given.budget (stream_at c))) (PartAt c) (one_setting given t c.env (stream_at c)) _ (one_setting_at P given t c.env (stream_at c) k.bodies k.rest k.end) (λ set m. set_at t.at c set p m)
 
-    pub command_at_moves : (opener : Opener) (token : Option Tok) (c : Configuration) → TokenAt P token → At P given c → Stands P (PartAt c) (command_at given rec opener token c)
+    pub command_at_moves : (opener : BlockOpener) (token : Option Tok) (c : Configuration) → TokenAt P token → At P given c → Stands P (PartAt c) (command_at given rec opener token c)
     command_at_moves opener None c p k = k.end
     command_at_moves opener (Some t) c p k = command_moves (beginning_of given.names t.kind) t opener c p k
 
-    follows : (opener : Opener) (c : Configuration) (part : CommandFlow) → PartAt c part → Stands P (Returns P given c) (go_on (λ next. rec (block opener next)) part)
+    follows : (opener : BlockOpener) (c : Configuration) (part : CommandFlow) → PartAt c part → Stands P (Returns P given c) (go_on (λ next. rec (block opener next)) part)
     follows opener c (Goes_on d) a = weaker_at P (Returns P given d) (Returns P given c) (rec (block opener d)) (λ p b. then_returns P given c d p a b) (h (block opener d) a.at)
     follows opener c (Finishes p) a = a
 

@@ -14,7 +14,7 @@ use Rattle.tk_expand.specs.Unread.{Unread}
 use Rattle.tk_keys.specs.Environment.{Env, first_env, level}
 use Rattle.tk_keys.specs.Given.{Given}
 use Rattle.tk_picture.specs.declared.Compiled.{Compiled}
-use Rattle.tk_picture.specs.Commands.{Opener, A_picture, Begins_path, Block, block, CommandFlow, with_path, command, commands}
+use Rattle.tk_picture.specs.Commands.{BlockOpener, A_picture, Begins_path, Block, block, CommandFlow, with_path, command, commands}
 use Rattle.tk_picture.specs.Configurations.{Configuration, configuration, Progress, with_progress, Lookahead, place_ahead, must_be, behind_next}
 use Rattle.tk_picture.specs.Documents.{compiled, nothing_after, picture_behind}
 use Rattle.tk_picture.specs.Flow.{Goes_on}
@@ -36,7 +36,7 @@ drawn_alike (Curve p q r ∷ xs) pic = refl
 drawn_alike (Close ∷ xs) pic = refl
 
 -- a command that draws
-pub path_is_drawn : (given : Given) (rec : Block → Answer Progress) (t : Tok) (opener : Opener) (c : Configuration) (inside : Env) (p : Progress) → level t.at c.env ≡ Ok inside → path given t.at (record c { env = inside }) ≡ Ok p → command given rec Begins_path t opener c ≡ Ok (Goes_on (with_progress c (with_path p)))
+pub path_is_drawn : (given : Given) (rec : Block → Answer Progress) (t : Tok) (opener : BlockOpener) (c : Configuration) (inside : Env) (p : Progress) → level t.at c.env ≡ Ok inside → path given t.at (record c { env = inside }) ≡ Ok p → command given rec Begins_path t opener c ≡ Ok (Goes_on (with_progress c (with_path p)))
 path_is_drawn given rec t opener c inside p within read =
     then_is (level t.at c.env) (λ inside. path given t.at (record c { env = inside }) >>= λ q. (let a : Answer CommandFlow = Ok (Goes_on (with_progress c (with_path q))) in a)) inside within
     ∙ then_is (path given t.at (record c { env = inside })) (λ q. (let a : Answer CommandFlow = Ok (Goes_on (with_progress c (with_path q))) in a)) p read

@@ -8,7 +8,7 @@ use Rattle.tk_token.specs.Answers.{Answer, ◌>>=◌}
 use Rattle.tk_token.specs.Refusals.{Fails}
 use Rattle.tk_token.proofs.Answering.{then_is, known_of, fails_then, fails_as}
 use Rattle.tk_keys.specs.Given.{Given}
-use Rattle.tk_picture.specs.Commands.{Opener, Block, block, CommandFlow, command_at, commands_step, commands}
+use Rattle.tk_picture.specs.Commands.{BlockOpener, Block, block, CommandFlow, command_at, commands_step, commands}
 use Rattle.tk_picture.specs.Configurations.{Configuration, Progress, Lookahead, work_at, ahead_of}
 use Rattle.tk_picture.specs.Flow.{Flow, Goes_on, Finishes, go_on}
 use Rattle.tk_picture.specs.Paths.{PathOpener, stretch, PathFlow, path_part, operations_step, operations}
@@ -41,7 +41,7 @@ module _ (given now : Given) (same : now ≡ given) (opener : PathOpener) (start
 
 -- ---- commands
 
-module _ (given now : Given) (same : now ≡ given) (opener : Opener) (start c : Configuration) (told : commands given (block opener start) ≡ commands given (block opener c)) where
+module _ (given now : Given) (same : now ≡ given) (opener : BlockOpener) (start c : Configuration) (told : commands given (block opener start) ≡ commands given (block opener c)) where
   -- commands whose front fails
   pub front_fails : (e : Refusal) → Fails e (ahead_of now c) → Fails e (commands given (block opener start))
   front_fails e h = fails_as e _ _ (told ∙ commands_are given (block opener c)) (fails_then e (ahead_of given c) _ (subst (λ (g : Given). Fails e (ahead_of g c)) same h))

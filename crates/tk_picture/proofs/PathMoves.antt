@@ -23,7 +23,7 @@ use Rattle.tk_expr.specs.Evaluates.{Evaluation, IsEvaluation}
 use Rattle.tk_expr.specs.Pairs.{paired, vector_of}
 use Rattle.tk_keys.specs.Given.{Given}
 use Rattle.tk_picture.specs.Configurations.{Configuration, Progress, stream_at, Lookahead, place_ahead, must_be, ahead_of, behind_next, behind_letters}
-use Rattle.tk_picture.specs.Coordinates.{centimetre, Reached, break_of, point_of, coordinate, point}
+use Rattle.tk_picture.specs.Coordinates.{centimetre, Reached, break_of, point_of, coordinate, point_ahead}
 use Rattle.tk_picture.specs.Flow.{Flow, Goes_on, Finishes, go_on}
 use Rattle.tk_picture.specs.Paths.{Stretch, stretch, PathOpener, A_path, PathFlow, drawn_with, letter_c, path_end, line, cycle, dashes, line_target, operation, path_part, operations_step, stretch_work, operations, path}
 use Rattle.tk_expand.proofs.NextPlaces.{place_at}
@@ -77,8 +77,8 @@ module _ (P : ℕ → Type 0) (given : Given) (begin : P 0) (evaluates : Evaluat
       then_at P (λ _. Unit {0}) (Reaches c) (point_of given.evaluate given.font at (trimmed text.list.rest)) _ (evaluates at (trimmed text.list.rest) p (trimmed_at text.list.rest k.0)) (λ point _.
       record { fell = record { end = refl; units = k.1; work_falls = (let a = w.short in let b = k.1 in omega arith) }; at = record { bodies = h.bodies; rest = w.places.1; end = h.end } })))
 
-  point_at : (c : Configuration) (ahead : Lookahead) → Looks P given c ahead → Stands P (λ (r : Reached). Advances P given c r.behind) (point given ahead)
-  unfolding point
+  point_at : (c : Configuration) (ahead : Lookahead) → Looks P given c ahead → Stands P (λ (r : Reached). Advances P given c r.behind) (point_ahead given ahead)
+  unfolding point_ahead
   point_at c ahead h =
       then_at P (Advances P given c) (λ (r : Reached). Advances P given c r.behind) (must_be (is_char left_parenthesis) ahead) _ (must_at P given (is_char left_parenthesis) c ahead h) (λ d a.
       weaker_at P (Reaches d) (λ (r : Reached). Advances P given c r.behind) (coordinate given (place_ahead ahead) d) (λ r b. advances_then P given c d r.behind a b) (coordinate_at (place_ahead ahead) d (place_at P ahead.behind.list.end ahead.token h.at.end h.token) a.at))
@@ -97,7 +97,7 @@ module _ (P : ℕ → Type 0) (given : Given) (begin : P 0) (evaluates : Evaluat
 
   line_at : (c : Configuration) (ahead : Lookahead) → Looks P given c ahead → Stands P (PartAt c) (line given ahead)
   unfolding line
-  line_at c ahead h = then_at P (λ (r : Reached). Advances P given c r.behind) (PartAt c) (point given ahead) _ (point_at c ahead h) (λ r a.
+  line_at c ahead h = then_at P (λ (r : Reached). Advances P given c r.behind) (PartAt c) (point_ahead given ahead) _ (point_at c ahead h) (λ r a.
       record { less = a.less; at = record { bodies = a.at.bodies; rest = a.at.rest; end = a.at.end } })
 
   part_further : (c d : Configuration) (part : PathFlow) → Comes P given c d → PartAt d part → PartAt c part
@@ -153,7 +153,7 @@ module _ (P : ℕ → Type 0) (given : Given) (begin : P 0) (evaluates : Evaluat
   unfolding path
   path_at at c h =
       then_at P (Looks P given c) (Returns P given c) (ahead_of given c) _ (ahead_at P given c h) (λ first a.
-      then_at P (λ (r : Reached). Advances P given c r.behind) (Returns P given c) (point given first) _ (point_at c first a) (λ start b.
+      then_at P (λ (r : Reached). Advances P given c r.behind) (Returns P given c) (point_ahead given first) _ (point_at c first a) (λ start b.
       let begun = drawn_with (Move start.point) start.behind in
       let there : Advances P given c begun = record { less = b.less; at = record { bodies = b.at.bodies; rest = b.at.rest; end = b.at.end } } in
       weaker_at P (Returns P given begun) (Returns P given c) (operations given (stretch (A_path at) begun)) (λ p k. then_returns P given c begun p (comes P given c begun there) k) (operations_at (stretch (A_path at) begun) there.at)))

@@ -12,7 +12,7 @@ use Rattle.tk_expand.proofs.Places.{StandAt, Stands}
 use Rattle.tk_keys.specs.Environment.{Env, level}
 use Rattle.tk_keys.specs.Given.{Given}
 use Rattle.tk_keys.proofs.Standing.{ok_at, any_value}
-use Rattle.tk_picture.specs.Commands.{Opener, A_picture, A_group, Beginning, Begins_path, Opens_group, Closes_group, Ends_environment, Begins_other, beginning_of, Block, block, CommandFlow, command, command_at, commands_step, block_work, commands}
+use Rattle.tk_picture.specs.Commands.{BlockOpener, A_picture, A_group, Beginning, Begins_path, Opens_group, Closes_group, Ends_environment, Begins_other, beginning_of, Block, block, CommandFlow, command, command_at, commands_step, block_work, commands}
 use Rattle.tk_picture.specs.Configurations.{Configuration, Progress, with_progress, Lookahead, work_at, ahead_of}
 use Rattle.tk_picture.specs.Flow.{Flow, Goes_on, Finishes, go_on}
 use Rattle.tk_picture.specs.Paths.{Stretch, stretch, PathOpener, PathFlow, path_part, operations_step, stretch_work, operations}
@@ -71,7 +71,7 @@ module _ (given : Given) where
   abbrev pub Falls : Configuration → CommandFlow → Type 0
   Falls c part = moves.PartAt Any given tt any_evaluates c part
 
-  pub command_falls : (opener : Opener) (token : Option Tok) (c : Configuration) → IfOk (command_at given (commands given) opener token c) (Falls c)
+  pub command_falls : (opener : BlockOpener) (token : Option Tok) (c : Configuration) → IfOk (command_at given (commands given) opener token c) (Falls c)
   command_falls opener token c = ok_at Any (Falls c) (command_at given (commands given) opener token c) (moves.command_at_moves Any given tt any_evaluates (commands given) (λ b k. moves.commands_move Any given tt any_evaluates b k) opener token c (any_token token) (any_at c))
     where
       any_token : (token : Option Tok) → TokenAt Any token
@@ -79,7 +79,7 @@ module _ (given : Given) where
       any_token (Some t) = tt
 
   module _ (f : Block → Answer Progress) (b : Block) (alike : (r : Block) → block_work given r < block_work given b → f r ≡ commands given r) where
-    command_alike : (beginning : Beginning) (t : Tok) (opener : Opener) (c : Configuration) → work_at given c < block_work given b → command given f beginning t opener c ≡ command given (commands given) beginning t opener c
+    command_alike : (beginning : Beginning) (t : Tok) (opener : BlockOpener) (c : Configuration) → work_at given c < block_work given b → command given f beginning t opener c ≡ command given (commands given) beginning t opener c
     command_alike Begins_path t opener c less = refl
     command_alike Opens_group t opener c less =
         then_alike (λ (e : Env). Unit {0}) (level t.at c.env) _ _ (any_value (level t.at c.env)) (λ inside _.

@@ -17,9 +17,9 @@ use Rattle.tk_picture.specs.Pictures.{drawn}
 use Rattle.tk_picture.specs.Configurations.{Configuration, Progress, progress, progress_at, with_progress, stream_at, with_stream, work_at, ahead_of}
 
 -- what commands stand in, with its place: a picture, to its `\end{tikzpicture}`, or a group, to its `}`
-pub data Opener : Type 0 where
-  A_picture : ℕ → Opener
-  A_group : ℕ → Opener
+pub data BlockOpener : Type 0 where
+  A_picture : ℕ → BlockOpener
+  A_group : ℕ → BlockOpener
 
 -- what a token begins among the commands of a picture
 pub data Beginning : Type 0 where
@@ -46,11 +46,11 @@ beginning_of names _ = Begins_other
 
 -- commands, up to the end of what they stand in
 pub record Block : Type 0 where
-  pub opener : Opener
+  pub opener : BlockOpener
   pub start : Configuration
 
 -- those commands
-abbrev pub block : Opener → Configuration → Block
+abbrev pub block : BlockOpener → Configuration → Block
 block opener start = record { opener = opener; start = start }
 
 -- what a command leaves: more commands follow, or the end was met
@@ -73,7 +73,7 @@ set_or_unbuilt at c (Some set) = Ok (Goes_on (with_setting c set))
 module _ (given : Given) where
   module _ (commands : Block → Answer Progress) where
     -- what a command leaves, whose first token was taken
-    abbrev pub command : Beginning → Tok → Opener → Configuration → Answer CommandFlow
+    abbrev pub command : Beginning → Tok → BlockOpener → Configuration → Answer CommandFlow
     command Begins_path t opener c = do
       inside ← level t.at c.env
       path_behind ← path given t.at (record c { env = inside })
@@ -92,7 +92,7 @@ module _ (given : Given) where
     command _ t opener c = fault Unbuilt t.at
 
     -- the same where the token is there; where the list runs out, nothing is built
-    abbrev pub command_at : Opener → Option Tok → Configuration → Answer CommandFlow
+    abbrev pub command_at : BlockOpener → Option Tok → Configuration → Answer CommandFlow
     command_at opener None c = fault Unbuilt c.list.end
     command_at opener (Some t) c = command (beginning_of given.names t.kind) t opener c
 

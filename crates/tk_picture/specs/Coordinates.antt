@@ -49,7 +49,7 @@ module _ (given : Given) where
     Ok (record { point = point; behind = with_stream c (stream text.units (unread written.rest c.list.end)) })
 
   -- a coordinate that begins with a token which was taken
-  unfoldable pub point : Lookahead → Answer Reached
-  point first = do
+  unfoldable pub point_ahead : Lookahead → Answer Reached
+  point_ahead first = do
     inside ← must_be (is_char left_parenthesis) first
     coordinate (place_ahead first) inside

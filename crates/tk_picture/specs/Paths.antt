@@ -12,7 +12,7 @@ use Rattle.tk_keys.specs.Given.{Given}
 use Rattle.tk_picture.specs.Flow.{Flow, Goes_on, Finishes, go_on}
 use Rattle.tk_picture.specs.Pictures.{with_seg}
 use Rattle.tk_picture.specs.Configurations.{Configuration, Progress, progress_at, Lookahead, must_be, work_at, ahead_of, behind_next, behind_letters}
-use Rattle.tk_picture.specs.Coordinates.{point}
+use Rattle.tk_picture.specs.Coordinates.{point_ahead}
 
 -- what operations stand in: a path, whose command stands at that place, up to its `;`
 pub data PathOpener : Type 0 where
@@ -49,7 +49,7 @@ module _ (given : Given) where
   -- a line to a coordinate
   unfoldable pub line : Lookahead → Answer PathFlow
   line first = do
-    end ← point given first
+    end ← point_ahead given first
     Ok (Goes_on (drawn_with (Line end.point) end.behind))
 
   -- `cycle`, whose `c` was taken; after it the path has to end
@@ -101,5 +101,5 @@ module _ (given : Given) where
   unfoldable pub path : ℕ → Configuration → Answer Progress
   path at c = do
     first ← ahead_of given c
-    start ← point given first
+    start ← point_ahead given first
     operations (stretch (A_path at) (drawn_with (Move start.point) start.behind))

@@ -14,15 +14,15 @@ use Rattle.tk_keys.specs.State.{env_of, given_of}
 use Rattle.tk_picture.specs.declared.drawer.Drawer.{Drawer}
 use Rattle.tk_picture.specs.declared.drawer.Flow as code_flow
 use Rattle.tk_picture.specs.declared.drawer.Flow.TheVariants as flows
-use Rattle.tk_picture.specs.declared.commands.Opener as code_opener
-use Rattle.tk_picture.specs.declared.commands.Opener.TheVariants as openers
+use Rattle.tk_picture.specs.declared.commands.BlockOpener as code_opener
+use Rattle.tk_picture.specs.declared.commands.BlockOpener.TheVariants as openers
 use Rattle.tk_picture.specs.declared.commands.Beginning as code_beginning
 use Rattle.tk_picture.specs.declared.commands.Beginning.TheVariants as beginnings
 use Rattle.tk_picture.specs.Flow.{Flow, Goes_on, Finishes}
 use Rattle.tk_picture.specs.Pictures.{Picture, first_picture}
 use Rattle.tk_picture.specs.Configurations.{Configuration, configuration, Progress, progress, Lookahead, lookahead}
 use Rattle.tk_picture.specs.Coordinates.{Reached}
-use Rattle.tk_picture.specs.Commands.{Opener, A_picture, A_group, Beginning, Begins_path, Opens_group, Closes_group, Ends_environment, Begins_other}
+use Rattle.tk_picture.specs.Commands.{BlockOpener, A_picture, A_group, Beginning, Begins_path, Opens_group, Closes_group, Ends_environment, Begins_other}
 
 -- what is given for the run
 abbrev pub given_to : Drawer → Given
@@ -50,7 +50,7 @@ flow_of d segs list flows.GoesOn = Goes_on (configuration_of d segs list)
 flow_of d segs list flows.Finishes = Finishes (progress_of d segs list)
 
 -- what commands stand in
-abbrev pub opener_of : code_opener.Opener → Opener
+abbrev pub opener_of : code_opener.BlockOpener → BlockOpener
 opener_of (openers.Picture at) = A_picture at
 opener_of (openers.Group at) = A_group at
 
@@ -77,7 +77,7 @@ abbrev pub reached_of : Point → Drawer → List Seg → Unread → Reached
 reached_of point d segs list = record { point = point; behind = configuration_of d segs list }
 
 -- what was given stays, and so do the levels further out
-pub record Keeps (old new : Drawer) : Type 0 where
+pub record KeepsGiven (old new : Drawer) : Type 0 where
   pub given : given_to new ≡ given_to old
   pub outer : new.state.levels.outer ≡ old.state.levels.outer
 

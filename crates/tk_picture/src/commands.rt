@@ -2,8 +2,8 @@
 
 ghost use Rattle.std.specs.Prelude.{◌≡◌, [], OnOk};
 ghost use Rattle.tk_token.specs.Refusals.{Gives};
-ghost use Rattle.tk_picture.specs.Commands.{Opener as AnOpener, Begins_path, Opens_group, Begins_other, begun_by, beginning_of, block, command, command_at, commands};
-ghost use Rattle.tk_picture.specs.Views.{given_to, configuration_of, progress_of, flow_of, opener_of, begun_of, IsSound, Keeps};
+ghost use Rattle.tk_picture.specs.Commands.{BlockOpener as AnOpener, Begins_path, Opens_group, Begins_other, begun_by, beginning_of, block, command, command_at, commands};
+ghost use Rattle.tk_picture.specs.Views.{given_to, configuration_of, progress_of, flow_of, opener_of, begun_of, IsSound, KeepsGiven};
 
 use crate::drawer::{Drawer, Flow, unbuilt};
 use tk_expand::Input;
@@ -12,7 +12,7 @@ use tk_token::{Code, Kind, Refusal, Tok};
 
 /// What commands stand in, with its place.
 #[derive(Clone, Copy)]
-pub(crate) enum Opener {
+pub(crate) enum BlockOpener {
     /// A picture, up to its `\end{tikzpicture}`.
     Picture(u32),
     /// A group, up to its `}`.
@@ -33,12 +33,12 @@ pub(crate) enum Beginning {
 impl Drawer {
     /// Runs commands, up to the end of what they stand in.
     #[cycle(commands)]
-    pub(crate) fn commands(&mut self, input: &mut Input, opener: Opener) -> Result<(), Refusal>
+    pub(crate) fn commands(&mut self, input: &mut Input, opener: BlockOpener) -> Result<(), Refusal>
         requires sound { IsSound self.old }
         ensures gives { Gives (λ _. progress_of self.new [] input.new) result
             (commands (given_to self.old) (block (opener_of opener) (configuration_of self.old [] input.old))) }
         ensures sound { OnOk result (IsSound self.new) }
-        ensures kept { OnOk result (Keeps self.old self.new) }
+        ensures kept { OnOk result (KeepsGiven self.old self.new) }
     {
         loop {
             let first = self.ahead(input)?;
@@ -54,14 +54,14 @@ impl Drawer {
     fn command_at(
         &mut self,
         input: &mut Input,
-        opener: Opener,
+        opener: BlockOpener,
         first: Option<Tok>,
     ) -> Result<Flow, Refusal>
         requires sound { IsSound self.old }
         ensures gives { Gives (flow_of self.new [] input.new) result
             (command_at (given_to self.old) (commands (given_to self.old)) (opener_of opener) first (configuration_of self.old [] input.old)) }
         ensures sound { OnOk result (IsSound self.new) }
-        ensures kept { OnOk result (Keeps self.old self.new) }
+        ensures kept { OnOk result (KeepsGiven self.old self.new) }
     {
         match first {
             Some(tok) => self.command(input, opener, self.beginning(tok.kind), tok),
@@ -74,7 +74,7 @@ impl Drawer {
     fn command(
         &mut self,
         input: &mut Input,
-        opener: Opener,
+        opener: BlockOpener,
         beginning: Beginning,
         first: Tok,
     ) -> Result<Flow, Refusal>
@@ -82,21 +82,21 @@ impl Drawer {
         ensures gives { Gives (flow_of self.new [] input.new) result
             (command (given_to self.old) (commands (given_to self.old)) (begun_of beginning) first (opener_of opener) (configuration_of self.old [] input.old)) }
         ensures sound { OnOk result (IsSound self.new) }
-        ensures kept { OnOk result (Keeps self.old self.new) }
+        ensures kept { OnOk result (KeepsGiven self.old self.new) }
     {
         match beginning {
             Beginning::Path => self.draw(input, first),
             Beginning::OpenGroup => self.group(input, first),
             Beginning::CloseGroup => match opener {
-                Opener::Group(_) => Ok(Flow::Finishes),
-                Opener::Picture(_) => Err(unbuilt(first.at).into()),
+                BlockOpener::Group(_) => Ok(Flow::Finishes),
+                BlockOpener::Picture(_) => Err(unbuilt(first.at).into()),
             },
             Beginning::EndEnvironment => match opener {
-                Opener::Picture(_) => {
+                BlockOpener::Picture(_) => {
                     input.expect_name(Code::Unbuilt, b"tikzpicture")?;
                     Ok(Flow::Finishes)
                 }
-                Opener::Group(_) => Err(unbuilt(first.at).into()),
+                BlockOpener::Group(_) => Err(unbuilt(first.at).into()),
             },
             Beginning::Other => self.set(input, first),
         }
@@ -109,10 +109,10 @@ impl Drawer {
         ensures gives { (opener : AnOpener) → Gives (flow_of self.new [] input.new) result
             (command (given_to self.old) (commands (given_to self.old)) Opens_group first opener (configuration_of self.old [] input.old)) }
         ensures sound { OnOk result (IsSound self.new) }
-        ensures kept { OnOk result (Keeps self.old self.new) }
+        ensures kept { OnOk result (KeepsGiven self.old self.new) }
     {
         self.state.open(first.at)?;
-        self.commands(input, Opener::Group(first.at))?;
+        self.commands(input, BlockOpener::Group(first.at))?;
         self.state.close_uncounted();
         Ok(Flow::GoesOn)
     }
@@ -123,7 +123,7 @@ impl Drawer {
         ensures gives { (opener : AnOpener) → Gives (flow_of self.new [] input.new) result
             (command (given_to self.old) (commands (given_to self.old)) Begins_path first opener (configuration_of self.old [] input.old)) }
         ensures sound { OnOk result (IsSound self.new) }
-        ensures kept { OnOk result (Keeps self.old self.new) }
+        ensures kept { OnOk result (KeepsGiven self.old self.new) }
     {
         let mut segs = Segs::new(self.state.allocator());
         self.state.open(first.at)?;
@@ -139,7 +139,7 @@ impl Drawer {
         ensures gives { (opener : AnOpener) → Gives (flow_of self.new [] input.new) result
             (command (given_to self.old) (commands (given_to self.old)) Begins_other first opener (configuration_of self.old [] input.old)) }
         ensures sound { OnOk result (IsSound self.new) }
-        ensures kept { OnOk result (Keeps self.old self.new) }
+        ensures kept { OnOk result (KeepsGiven self.old self.new) }
     {
         if self.state.run_one(first, input)? {
             Ok(Flow::GoesOn)

@@ -10,7 +10,7 @@ ghost use Rattle.tk_token.specs.Refusals.{Gives};
 ghost use Rattle.tk_expand.specs.Tells.{Tells};
 ghost use Rattle.tk_expr.specs.Evaluated.{evaluated};
 ghost use Rattle.tk_expr.specs.Pairs.{paired};
-ghost use Rattle.tk_picture.specs.Coordinates.{break_of, point_of, coordinate, point};
+ghost use Rattle.tk_picture.specs.Coordinates.{break_of, point_of, coordinate, point_ahead};
 ghost use Rattle.tk_picture.specs.Views.{given_to, configuration_of, lookahead_of, reached_of, OnlyPays};
 
 use crate::drawer::{Drawer, scaled, unbuilt};
@@ -25,10 +25,10 @@ const CENTIMETRE: i64 = 1_864_679;
 
 impl Drawer {
     /// Reads a coordinate, whose first token was taken.
-    #[tactic(auto, unfolding(crate::specs::Configurations::must_be, crate::specs::Coordinates::point))]
+    #[tactic(auto, unfolding(crate::specs::Configurations::must_be, crate::specs::Coordinates::point_ahead))]
     pub(crate) fn point(&mut self, input: &mut Input, first: Option<Tok>) -> Result<Point, Refusal>
         ensures gives { (segs : List ASeg) → Gives (λ point. reached_of point self.new segs input.new) result
-            (point (given_to self.old) (lookahead_of first self.old segs input.old)) }
+            (point_ahead (given_to self.old) (lookahead_of first self.old segs input.old)) }
         ensures pays { OnOk result (OnlyPays self.old self.new) }
     {
         input.expect(Code::Unbuilt, first, '(')?;

@@ -14,7 +14,7 @@ ghost use Rattle.tk_picture.specs.Outcome.{IsOutcome, font_units};
 ghost use Rattle.tk_picture.specs.Views.{given_to, picture_of, IsSound, IsNew};
 
 use crate::Compiled;
-use crate::commands::Opener;
+use crate::commands::BlockOpener;
 use crate::drawer::{Drawer, scaled, unbuilt};
 use std::alloc::{AllocError, Global};
 use tk_expand::Input;
@@ -97,7 +97,7 @@ impl Drawer {
     {
         input.expect_name(Code::Unbuilt, b"tikzpicture")?;
         self.state.open(at)?;
-        self.commands(input, Opener::Picture(at))?;
+        self.commands(input, BlockOpener::Picture(at))?;
         Ok(expect_nothing(input)?)
     }
 

@@ -1,7 +1,7 @@
 use Rattle.std.proofs.Common.{◌≡◌, ℕ, ◌+◌, ◌-◌, ◌*◌, ◌≤◌, [], length}
 use Rattle.std.specs.Option.{option_to_list}
 use Rattle.tk_picture.specs.Commands.{block, commands}
-use Rattle.tk_picture.specs.Views.{given_to, configuration_of, opener_of, IsSound, Keeps}
+use Rattle.tk_picture.specs.Views.{given_to, configuration_of, opener_of, IsSound, KeepsGiven}
 use Rattle.tk_picture.proofs.drawer.Drawer.+commands.Given as goal
 
 abbrev pub decreases-commands : goal.decreases-commands
@@ -20,7 +20,7 @@ abbrev pub invariant-commands-loop-first : goal.invariant-commands-loop-first
 invariant-commands-loop-first l = record {
   told : commands (given_to l.fn.self) (block (opener_of l.opener) (configuration_of l.fn.self [] l.fn.input)) ≡ commands (given_to l.fn.self) (block (opener_of l.opener) (configuration_of l.self [] l.input));
   sound : IsSound l.self;
-  kept : Keeps l.fn.self l.self;
+  kept : KeepsGiven l.fn.self l.self;
   work : (l.self.state.budget - l.self.state.units) + length l.input.rest ≤ (l.fn.self.state.budget - l.fn.self.state.units) + length l.fn.input.rest;
 }
 
