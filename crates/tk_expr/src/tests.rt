@@ -229,11 +229,11 @@ fn expressions_have_their_values(rt: HostRuntime) -> Result<(), Fail> {
     Ok(())
 }
 
-/// The two values of a pair.
-fn values(pair: ValuePair) -> (Value, Value) {
+/// The two lengths of a pair: the number in scaled points, and whether it has a unit.
+fn shown(pair: ValuePair) -> [(i64, bool); 2] {
     match pair {
-        ValuePair::Plane(x, y) => (x, y),
-        ValuePair::Polar(_, r, s) => (r, s),
+        ValuePair::Plane(x, y) => [(x.number.sp(), x.unit), (y.number.sp(), y.unit)],
+        ValuePair::Polar(_, r, s) => [(r.number.sp(), r.unit), (s.number.sp(), s.unit)],
     }
 }
 
@@ -241,12 +241,12 @@ fn values(pair: ValuePair) -> (Value, Value) {
 fn coordinates_have_their_numbers(rt: HostRuntime) -> Result<(), Fail> {
     for (text, x, y) in &PAIRS {
         let toks = toks(rt.alloc(), text)?;
-        let Ok(Some(pair)) = pair(toks.as_slice(), font(&rt), AT) else {
+        let Ok(Some(found)) = pair(toks.as_slice(), font(&rt), AT) else {
             return Err("no pair".into());
         };
-        let found = values(pair);
-        assert_eq!(rt; (found.0.number.sp(), found.0.unit), *x, "{text}");
-        assert_eq!(rt; (found.1.number.sp(), found.1.unit), *y, "{text}");
+        let [first, second] = shown(found);
+        assert_eq!(rt; first, *x, "{text}");
+        assert_eq!(rt; second, *y, "{text}");
     }
     let toks = toks(rt.alloc(), "{0:1}")?;
     assert_eq!(rt; pair(toks.as_slice(), font(&rt), AT), Ok(None));
@@ -259,13 +259,14 @@ fn vectors_are_in_range(rt: HostRuntime) -> Result<(), Fail> {
         number: scaled(&rt, 1_048_576_000),
         unit: false,
     };
+    let other = value;
     let two = scaled(&rt, 131_072);
     let fault = Fault {
         code: Code::TooLarge,
         at: 7,
     };
     assert_eq!(rt;
-        vector(ValuePair::Plane(value, value), two, two, 7),
+        vector(ValuePair::Plane(value, other), two, two, 7),
         Err(fault)
     );
     Ok(())
