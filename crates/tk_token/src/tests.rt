@@ -176,6 +176,12 @@ fn sources_are_cut_into_tokens(rt: HostRuntime) -> Result<(), Fail> {
     Ok(())
 }
 
+/// The place right after a text.
+fn place_after(rt: &impl Abort, before: &str) -> (u32, u32) {
+    assert!(rt; before.len() <= 1_000);
+    place(before.as_bytes(), before.len() as u32)
+}
+
 #[test]
 fn words_have_numbers_and_places_lines(rt: HostRuntime) -> Result<(), Fail> {
     let mut names = Names::new(rt.alloc());
@@ -184,9 +190,10 @@ fn words_have_numbers_and_places_lines(rt: HostRuntime) -> Result<(), Fail> {
     assert_eq!(rt; names.add("draw")?, 0);
     assert_eq!(rt; names.word(1), Some("fill"));
     assert_eq!(rt; names.word(2), None);
-    // `é` has two bytes; what stands after the place doesn't count.
-    assert_eq!(rt; place("é\nbc".as_bytes(), 4), (2, 2));
-    assert_eq!(rt; place(b"a\r\n\xff", 2), (1, 3));
+    // `é` has two bytes.
+    assert_eq!(rt; place_after(&rt, "é\nb"), (2, 2));
+    // What stands after the place doesn't count.
+    assert_eq!(rt; place(b"a\nbc\n\xff", 3), (2, 2));
     Ok(())
 }
 
