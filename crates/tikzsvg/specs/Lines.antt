@@ -2,7 +2,7 @@
 use Rattle.std.specs.Prelude.{ℕ, List, ◌++◌, codes, decimal}
 use Rattle.tk_token.specs.declared.Fault.{Fault}
 use Rattle.tk_token.specs.declared.Code.{Code}
-use Rattle.tk_token.specs.declared.Code.TheVariants.{NotUtf8, BadChar, Brace, TooDeep, TooLarge, DivZero, Domain, Expression, MacroSyntax, MacroArg, Budget, Levels, Coordinate, TooLong, Unbuilt}
+use Rattle.tk_token.specs.declared.Code.TheVariants.{NotUtf8, BadChar, Brace, TooDeep, TooLarge, DivZero, Domain, Expression, Singular, HandlerValue, MacroSyntax, MacroArg, Budget, Levels, KeyDepth, UnknownKey, ValueRequired, ValueForbidden, UnknownChoice, NotASetting, Colour, LoopSyntax, LoopItem, NoAnchor, NoGlyph, TextCommand, Math, Coordinate, NoNode, PathSyntax, UnknownCommand, EndMismatch, NoPicture, Font, TooLong, Unbuilt}
 use Rattle.tk_token.specs.Places.{line_of, column_of}
 
 -- the name of a fault
@@ -15,11 +15,32 @@ code_name TooLarge = codes "TooLarge"
 code_name DivZero = codes "DivZero"
 code_name Domain = codes "Domain"
 code_name Expression = codes "Expression"
+code_name Singular = codes "Singular"
+code_name HandlerValue = codes "HandlerValue"
 code_name MacroSyntax = codes "MacroSyntax"
 code_name MacroArg = codes "MacroArg"
 code_name Budget = codes "Budget"
 code_name Levels = codes "Levels"
+code_name KeyDepth = codes "KeyDepth"
+code_name UnknownKey = codes "UnknownKey"
+code_name ValueRequired = codes "ValueRequired"
+code_name ValueForbidden = codes "ValueForbidden"
+code_name UnknownChoice = codes "UnknownChoice"
+code_name NotASetting = codes "NotASetting"
+code_name Colour = codes "Colour"
+code_name LoopSyntax = codes "LoopSyntax"
+code_name LoopItem = codes "LoopItem"
+code_name NoAnchor = codes "NoAnchor"
+code_name NoGlyph = codes "NoGlyph"
+code_name TextCommand = codes "TextCommand"
+code_name Math = codes "Math"
 code_name Coordinate = codes "Coordinate"
+code_name NoNode = codes "NoNode"
+code_name PathSyntax = codes "PathSyntax"
+code_name UnknownCommand = codes "UnknownCommand"
+code_name EndMismatch = codes "EndMismatch"
+code_name NoPicture = codes "NoPicture"
+code_name Font = codes "Font"
 code_name TooLong = codes "TooLong"
 code_name Unbuilt = codes "Unbuilt"
 

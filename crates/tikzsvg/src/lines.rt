@@ -14,26 +14,50 @@ pub struct Placed {
     pub column: u32,
 }
 
+/// The names of the faults, in the order of their variants.
+static CODE_NAMES: [&str; 36] = [
+    "NotUtf8",
+    "BadChar",
+    "Brace",
+    "TooDeep",
+    "TooLarge",
+    "DivZero",
+    "Domain",
+    "Expression",
+    "Singular",
+    "HandlerValue",
+    "MacroSyntax",
+    "MacroArg",
+    "Budget",
+    "Levels",
+    "KeyDepth",
+    "UnknownKey",
+    "ValueRequired",
+    "ValueForbidden",
+    "UnknownChoice",
+    "NotASetting",
+    "Colour",
+    "LoopSyntax",
+    "LoopItem",
+    "NoAnchor",
+    "NoGlyph",
+    "TextCommand",
+    "Math",
+    "Coordinate",
+    "NoNode",
+    "PathSyntax",
+    "UnknownCommand",
+    "EndMismatch",
+    "NoPicture",
+    "Font",
+    "TooLong",
+    "Unbuilt",
+];
+
 fn code_name(code: Code) -> &'static str
     ensures { result.now ≡ text.code_name code }
 {
-    match code {
-        Code::NotUtf8 => "NotUtf8",
-        Code::BadChar => "BadChar",
-        Code::Brace => "Brace",
-        Code::TooDeep => "TooDeep",
-        Code::TooLarge => "TooLarge",
-        Code::DivZero => "DivZero",
-        Code::Domain => "Domain",
-        Code::Expression => "Expression",
-        Code::MacroSyntax => "MacroSyntax",
-        Code::MacroArg => "MacroArg",
-        Code::Budget => "Budget",
-        Code::Levels => "Levels",
-        Code::Coordinate => "Coordinate",
-        Code::TooLong => "TooLong",
-        Code::Unbuilt => "Unbuilt",
-    }
+    CODE_NAMES[code as usize]
 }
 
 /// `FILE:LINE:COLUMN: FAULT`, ended by LF.

@@ -7,7 +7,7 @@ use Rattle.tk_token.specs.declared.Kind.{Kind}
 use Rattle.tk_token.specs.declared.Kind.TheVariants.{Char, Word, Symbol, Open, Close, Param, Arg, Space}
 use Rattle.tk_token.specs.declared.Tok.{Tok}
 use Rattle.tk_token.specs.Answers.{Answer, ◌>>=◌, fault}
-use Rattle.tk_token.specs.Characters.{right_bracket}
+use Rattle.tk_characters.specs.Characters.{right_bracket}
 use Rattle.tk_token.specs.Kinds.{is_char, is_open, is_param}
 use Rattle.tk_token.proofs.Answering.{then_is}
 use Rattle.tk_store.specs.Bodies.{digit_of}

@@ -4,7 +4,7 @@ use Rattle.tk_token.specs.declared.Code.TheVariants.{MacroSyntax}
 use Rattle.tk_token.specs.declared.Tok.{Tok}
 use Rattle.tk_token.specs.Answers.{Answer, ◌>>=◌, or_fault}
 use Rattle.tk_token.specs.Groups.{group_of}
-use Rattle.tk_token.specs.Kinds.{is_open}
+use Rattle.tk_token.specs.Kinds.{is_open, word_of}
 use Rattle.tk_store.specs.Bodies.{body_of}
 use Rattle.tk_store.specs.Levels.{Macros}
 use Rattle.tk_expand.specs.Unread.{Unread, unread}
@@ -13,7 +13,7 @@ use Rattle.tk_expand.specs.Reading.{Read, read, after_token, token_value}
 use Rattle.tk_define.specs.declared.Command.{Command}
 use Rattle.tk_define.specs.declared.Command.TheVariants.{Def, Edef, NewCommand}
 use Rattle.tk_define.specs.declared.Definition.{Definition}
-use Rattle.tk_define.specs.Heads.{word_of, parameters, name_of, count_of}
+use Rattle.tk_define.specs.Heads.{parameters, name_of, count_of}
 
 -- a body with so many arguments, whose `{` was read, and its `}`
 unfoldable pub body_in : ℕ → Unread → Answer (Read (List Tok))

@@ -1,20 +1,15 @@
 -- The heads of definitions: what stands between the command and the body.
-use Rattle.std.specs.Prelude.{ℕ, zero, suc, ◌+◌, ◌==◌, if◌then◌else◌, Option, Some, None, Ok}
+use Rattle.std.specs.Prelude.{ℕ, zero, suc, ◌+◌, ◌==◌, if◌then◌else◌, Ok}
 use Rattle.tk_token.specs.declared.Code.TheVariants.{MacroSyntax}
 use Rattle.tk_token.specs.declared.Kind.{Kind}
 use Rattle.tk_token.specs.declared.Kind.TheVariants.{Char, Word, Open}
 use Rattle.tk_token.specs.declared.Tok.{Tok}
 use Rattle.tk_token.specs.Answers.{Answer, ◌>>=◌, fault}
-use Rattle.tk_token.specs.Characters.{star, left_bracket, right_bracket}
-use Rattle.tk_token.specs.Kinds.{is_char, is_open, is_close, is_param}
+use Rattle.tk_characters.specs.Characters.{star, left_bracket, right_bracket}
+use Rattle.tk_token.specs.Kinds.{is_char, is_open, is_close, is_param, word_of}
 use Rattle.tk_store.specs.Bodies.{digit_of}
 use Rattle.tk_expand.specs.Unread.{Unread, past_spaces}
 use Rattle.tk_expand.specs.Reading.{Read, read, next_token, after_token, token_value}
-
--- the number of a control word
-abbrev pub word_of : Kind → Option ℕ
-word_of (Word w) = Some w
-word_of _ = None
 
 -- the character of that digit
 abbrev pub digit : ℕ → ℕ

@@ -1,8 +1,7 @@
 //! Definitions, read from behind their commands.
 
-ghost use Rattle.std.specs.Prelude.{◌≡◌, ◌+◌, ◌-◌, ◌<◌, ◌≤◌, length, IfOk, OnOk};
+ghost use Rattle.std.specs.Prelude.{◌≡◌, ◌+◌, ◌-◌, ◌<◌, ◌≤◌, length, OnOk};
 ghost use Rattle.tk_token.specs.Refusals.{Gives};
-ghost use Rattle.tk_store.specs.Bodies.{IsProperMacro, AreProperMacros};
 ghost use Rattle.tk_expand.specs.Expand.{stream};
 ghost use Rattle.tk_expand.specs.Reading.{read};
 ghost use Rattle.tk_define.specs.Definitions.{stands_for, def, new_command, edef, defined};
@@ -37,9 +36,6 @@ pub fn read_definition(
     // At least one token is taken, so that less work is left than before.
     ensures work { OnOk result ((units.new.budget - units.new.used) + length input.new.rest
         < (units.old.budget - units.old.used) + length input.old.rest) }
-
-    // The macro has at most nine arguments, and its body only their places.
-    ensures proper { IfOk result (λ definition. IsProperMacro definition.value) }
 {
     match command {
         Command::Def => def(alloc, input),
@@ -54,7 +50,6 @@ fn def(alloc: Global, input: &mut Input) -> Result<Definition, Refusal>
     ensures gives { Gives (λ definition. read definition input.new) result (def input.old) }
     ensures end { OnOk result (input.new.end ≡ input.old.end) }
     ensures shorter { OnOk result (length input.new.rest < length input.old.rest) }
-    ensures proper { IfOk result (λ definition. IsProperMacro definition.value) }
 {
     let word = word(input)?;
     let args = parameters(input)?;
@@ -68,7 +63,6 @@ fn new_command(alloc: Global, input: &mut Input) -> Result<Definition, Refusal>
     ensures gives { Gives (λ definition. read definition input.new) result (new_command input.old) }
     ensures end { OnOk result (input.new.end ≡ input.old.end) }
     ensures shorter { OnOk result (length input.new.rest < length input.old.rest) }
-    ensures proper { IfOk result (λ definition. IsProperMacro definition.value) }
 {
     let word = name(input)?;
     let args = count(input)?;
@@ -92,22 +86,13 @@ fn edef(
     ensures budget { units.new.budget ≡ units.old.budget }
     ensures used { OnOk result (units.old.used ≤ units.new.used) }
     ensures shorter { OnOk result (length input.new.rest < length input.old.rest) }
-    ensures proper { IfOk result (λ definition. IsProperMacro definition.value) }
 {
     let word = word(input)?;
     input.expect_open(Code::MacroSyntax)?;
     let written = body(alloc, 0, input)?;
-    keeps_proper_macros(store);
     let written = Vec::from_slice(alloc, written.as_slice())?;
     let text = expand_all(alloc, written, store, units)?;
     Ok(stands_for(word, 0, Body::from_vec(text)?))
-}
-
-/// All macros of a store are proper, as it says of them whichever word is looked up.
-fn keeps_proper_macros(store: &Store)
-    ensures { AreProperMacros store.now.top.macros }
-{
-    store.get_macro(0);
 }
 
 /// A word stands for a body with so many arguments.

@@ -1,6 +1,6 @@
 //! The heads of definitions. None of these calls takes memory.
 
-ghost use Rattle.std.specs.Prelude.{◌≡◌, ◌<◌, ◌≤◌, length, IfOk, OnOk};
+ghost use Rattle.std.specs.Prelude.{◌≡◌, ◌<◌, ◌≤◌, length, OnOk};
 ghost use Rattle.tk_token.specs.declared.Code.TheVariants.{MacroSyntax};
 ghost use Rattle.tk_token.specs.Kinds.{is_open};
 ghost use Rattle.tk_expand.specs.Reading.{read, after_token};
@@ -17,7 +17,6 @@ pub(crate) fn parameters(input: &mut Input) -> Result<u8, Fault>
     ensures gives { Tells (λ count. read count input.new) result (parameters 0 9 input.old) }
     ensures end { OnOk result (input.new.end ≡ input.old.end) }
     ensures shorter { OnOk result (length input.new.rest < length input.old.rest) }
-    ensures few { IfOk result (λ count. count ≤ 9) }
 {
     for count in 0..9 {
         let tok = input.token(Code::MacroSyntax)?;
@@ -90,7 +89,6 @@ pub(crate) fn count(input: &mut Input) -> Result<u8, Fault>
     ensures gives { Tells (λ count. read count input.new) result (count_of input.old) }
     ensures end { OnOk result (input.new.end ≡ input.old.end) }
     ensures shorter { OnOk result (length input.new.rest < length input.old.rest) }
-    ensures few { IfOk result (λ count. count ≤ 9) }
 {
     input.skip_spaces();
     let first = input.token(Code::MacroSyntax)?;
@@ -107,7 +105,6 @@ fn bracketed_count(input: &mut Input) -> Result<u8, Fault>
     ensures gives { Tells (λ count. read count input.new) result (bracketed_count input.old) }
     ensures end { OnOk result (input.new.end ≡ input.old.end) }
     ensures shorter { OnOk result (length input.new.rest < length input.old.rest) }
-    ensures few { IfOk result (λ count. count ≤ 9) }
 {
     input.skip_spaces();
     let count = digit(input)?;

@@ -1,14 +1,13 @@
 //! What the next token of a definition says, and its body.
 
-ghost use Rattle.std.specs.Prelude.{◌≡◌, ◌+◌, ◌<◌, ◌≤◌, length, IfOk, OnOk};
-ghost use Rattle.std.specs.List.{All};
+ghost use Rattle.std.specs.Prelude.{◌≡◌, ◌+◌, ◌<◌, ◌≤◌, length, OnOk};
 ghost use Rattle.tk_token.specs.declared.Code.TheVariants.{MacroSyntax};
+ghost use Rattle.tk_token.specs.Kinds.{word_of};
 ghost use Rattle.tk_token.specs.Refusals.{Gives};
-ghost use Rattle.tk_store.specs.Bodies.{digit_of, IsArgOf};
+ghost use Rattle.tk_store.specs.Bodies.{digit_of};
 ghost use Rattle.tk_expand.specs.Reading.{read, token_value};
 ghost use Rattle.tk_expand.specs.Tells.{Tells};
 ghost use Rattle.tk_define.specs.Definitions.{body_in};
-ghost use Rattle.tk_define.specs.Heads.{word_of};
 
 use std::alloc::Global;
 use tk_expand::Input;
@@ -47,7 +46,6 @@ pub(crate) fn digit(input: &mut Input) -> Result<u8, Fault>
         (token_value MacroSyntax digit_of input.old) }
     ensures end { OnOk result (input.new.end ≡ input.old.end) }
     ensures shorter { OnOk result (length input.new.rest < length input.old.rest) }
-    ensures few { IfOk result (λ digit. digit ≤ 9) }
 {
     let tok = input.token(Code::MacroSyntax)?;
     match digit_of(tok.kind) {
@@ -62,7 +60,6 @@ pub(crate) fn body(alloc: Global, args: u8, input: &mut Input) -> Result<Body, R
     ensures gives { Gives (λ body. read body input.new) result (body_in args input.old) }
     ensures end { OnOk result (input.new.end ≡ input.old.end) }
     ensures shorter { OnOk result (length input.new.rest < length input.old.rest) }
-    ensures places { IfOk result (λ body. All (λ tok. IsArgOf args tok.kind) body) }
 {
     let Some(written) = input.group()? else {
         return Err(misfit(input.end()).into());

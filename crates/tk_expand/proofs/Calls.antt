@@ -67,15 +67,19 @@ without_arguments [] = refl
 without_arguments (t ∷ ts) = ap (λ (us : List Tok). us ++ with_arguments [] ts) (itself t.kind t) ∙ ap (λ (us : List Tok). t ∷ us) (without_arguments ts)
 
 -- with no arguments a body stays as it is
-pub shared : (arguments : List (Vec Tok Global)) (body : List Tok) → length arguments ≡ 0 → body ≡ with_arguments (texts_of arguments) body
-shared [] body none = sym (without_arguments body)
+pub shared : (arguments : List (Vec Tok Global)) (body : List Tok) → length arguments ≡ 0
+    → with_arguments (texts_of arguments) body ≡ body
+shared [] body none = without_arguments body
 shared (a ∷ arguments) body none = absurd (omega (arith, none))
 
 -- a call whose arguments are known is replaced where it is paid for
-pub replaced_by : (budget : ℕ) (called : Macro) (at : ℕ) (s : Stream) (texts : List (List Tok)) (rest : List Tok) → arguments_of at called.args s.list.rest ≡ Ok (given texts rest) → (texts' : List (List Tok)) → texts' ≡ texts → (body : List Tok) → body ≡ called.body → (paid : Answer ℕ) → pay budget s.units (cost_of (with_arguments texts' body)) at ≡ paid → replaced budget called at s ≡ (paid >>= λ paid. Ok (stream paid (unread (with_arguments texts' body ++ rest) s.list.end)))
+pub replaced_by : (budget : ℕ) (called : Macro) (at : ℕ) (s : Stream) (texts : List (List Tok)) (rest : List Tok)
+    → arguments_of at called.args s.list.rest ≡ Ok (given texts rest)
+    → (same : List (List Tok)) → same ≡ texts
+    → replaced budget called at s
+    ≡ (pay budget s.units (cost_of (with_arguments same called.body)) at
+    >>= λ paid. Ok (stream paid (unread (with_arguments same called.body ++ rest) s.list.end)))
 unfolding replaced call_text
-replaced_by budget called at s texts rest known texts' same body of_it paid pays =
+replaced_by budget called at s texts rest known same are =
     ap (λ (a : Answer Arguments). (a >>= λ a. Ok (cut (with_arguments a.texts called.body) a.rest)) >>= λ text. pay budget s.units (cost_of text.front) at >>= λ paid. Ok (stream paid (unread (text.front ++ text.rest) s.list.end))) known
-    ∙ ap (λ (ts : List (List Tok)). pay budget s.units (cost_of (with_arguments ts called.body)) at >>= λ paid. Ok (stream paid (unread (with_arguments ts called.body ++ rest) s.list.end))) (sym same)
-    ∙ ap (λ (body : List Tok). pay budget s.units (cost_of (with_arguments texts' body)) at >>= λ paid. Ok (stream paid (unread (with_arguments texts' body ++ rest) s.list.end))) (sym of_it)
-    ∙ ap (λ (p : Answer ℕ). p >>= λ paid. Ok (stream paid (unread (with_arguments texts' body ++ rest) s.list.end))) pays
+    ∙ ap (λ (ts : List (List Tok)). pay budget s.units (cost_of (with_arguments ts called.body)) at >>= λ paid. Ok (stream paid (unread (with_arguments ts called.body ++ rest) s.list.end))) (sym are)

@@ -1,4 +1,4 @@
--- Private: only private contracts use this. Texts of the code.
+-- Texts that the code has in vectors.
 use Rattle.std.specs.Prelude.{List, map, Vec}
 use Rattle.std.specs.declared.alloc.Global.{Global}
 use Rattle.tk_token.specs.declared.Tok.{Tok}

@@ -1,6 +1,6 @@
 //! Macro calls: their arguments, their texts, and what they cost.
 
-ghost use Rattle.std.specs.Prelude.{◌≡◌, ◌+◌, ◌-◌, ◌≤◌, ◌^◌, ℕ, [], ◌++◌, length, true, Ok, Err, MatchOption, MatchResult, IfOk, IfNone, OnOk};
+ghost use Rattle.std.specs.Prelude.{◌≡◌, ◌+◌, ◌-◌, ◌<◌, ◌≤◌, ◌^◌, ℕ, [], ◌++◌, length, true, Ok, Err, MatchOption, MatchResult, IfOk, IfNone, IsTrue, OnOk, OnErr};
 ghost use Rattle.std.specs.Option.{option_to_list, is_some};
 ghost use Rattle.tk_token.specs.Refusals.{Gives};
 ghost use Rattle.tk_expand.specs.Arguments.{arguments_of, given, with_arguments, put_in};
@@ -52,14 +52,14 @@ impl Input {
         ensures budget { units.new.budget ≡ units.old.budget }
     {
         let arguments = self.arguments(called.args, at)?;
-        pay_for(units, &arguments, called.body.as_slice(), at)?;
-        let text = with_arguments(self.allocator(), &arguments, &called.body)?;
+        let text = paid_text(self.allocator(), &arguments, &called.body, at, units)?;
         self.push(text)?;
         Ok(())
     }
 
-    /// Takes so many arguments.
-    fn arguments(&mut self, count: u8, at: u32) -> Result<Vec<Vec<Tok>>, Refusal>
+    /// Takes so many arguments that nothing delimits, as `argument` takes each. The fault is `MacroArg` at the place, exactly
+    /// where one is missing.
+    pub fn arguments(&mut self, count: u8, at: u32) -> Result<Vec<Vec<Tok>>, Refusal>
         ensures gives { Gives (λ texts. given (texts_of texts.items) self.new.rest) result
             (arguments_of at count self.old.rest) }
         ensures end { OnOk result (self.new.end ≡ self.old.end) }
@@ -72,6 +72,50 @@ impl Input {
     }
 }
 
+/// The text of a body, in which the arguments take their places, once it is paid for: it costs one unit more than it has
+/// tokens, so that `(#1)` costs 5 units with the argument `ab`, and gives `(ab)`. The fault is `Budget` at the place, exactly
+/// where the units would pass the budget. Where no token of the body is the place of an argument, the text shares its
+/// tokens with the body.
+pub fn paid_text(
+    alloc: Global,
+    arguments: &[Vec<Tok>],
+    body: &Body,
+    at: u32,
+    units: &mut Units,
+) -> Result<Body, Refusal>
+    ensures pays { Gives (λ _. units.new.used) result (pay units.old.budget units.old.used
+        (cost_of (with_arguments (texts_of arguments.now) body.now)) at) }
+    ensures text { IfOk result (λ text. text ≡ with_arguments (texts_of arguments.now) body.now) }
+    ensures budget { units.new.budget ≡ units.old.budget }
+    ensures used { units.old.used ≤ units.new.used }
+
+    // More units are spent than tokens come.
+    ensures work { IfOk result (λ text. (units.new.budget - units.new.used) + length text
+        < units.old.budget - units.old.used) }
+{
+    if takes_none(arguments, body.as_slice()) {
+        units.pay(body.as_slice().len() as u64 + 1, at)?;
+        return Ok(body.copy()?);
+    }
+    pay_for(units, arguments, body.as_slice(), at)?;
+    Ok(with_arguments(alloc, arguments, body.as_slice())?)
+}
+
+/// Whether the body stays as it is, since there is no argument, or no place of one in it.
+fn takes_none(arguments: &[Vec<Tok>], body: &[Tok]) -> bool
+    ensures { IsTrue result → with_arguments (texts_of arguments.now) body.now ≡ body.now }
+{
+    if arguments.is_empty() {
+        return true;
+    }
+    for tok in body {
+        if let Kind::Arg(_) = tok.kind {
+            return false;
+        }
+    }
+    true
+}
+
 /// Pays for a text before it is put together, so that no text is longer than the budget.
 fn pay_for(units: &mut Units, arguments: &[Vec<Tok>], body: &[Tok], at: u32) -> Result<(), Fault>
     ensures pays { MatchResult result
@@ -80,6 +124,7 @@ fn pay_for(units: &mut Units, arguments: &[Vec<Tok>], body: &[Tok], at: u32) -> 
         (λ fault. pay units.old.budget units.old.used
         (cost_of (with_arguments (texts_of arguments.now) body.now)) at ≡ Err fault) }
     ensures budget { units.new.budget ≡ units.old.budget }
+    ensures err { OnErr result (units.new ≡ units.old) }
 {
     // The budget is a number below 2^64, so that a cost past it is too much.
     let _budget = units.budget;
@@ -105,15 +150,12 @@ fn cost_of(arguments: &[Vec<Tok>], body: &[Tok]) -> Option<u64>
     Some(cost)
 }
 
-/// The body with its arguments put in. Without arguments it shares the tokens of the body.
-fn with_arguments(alloc: Global, arguments: &[Vec<Tok>], body: &Body) -> Result<Body, AllocError>
+/// The body with its arguments put in.
+fn with_arguments(alloc: Global, arguments: &[Vec<Tok>], body: &[Tok]) -> Result<Body, AllocError>
     ensures { IfOk result (λ text. text ≡ with_arguments (texts_of arguments.now) body.now) }
 {
-    if arguments.is_empty() {
-        return Ok(body.copy()?);
-    }
     let mut text = Vec::new(alloc);
-    for tok in body.as_slice() {
+    for tok in body {
         text.extend_from_slice(put_in(arguments, tok))?;
     }
     Body::from_vec(text)

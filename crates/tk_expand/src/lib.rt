@@ -12,7 +12,7 @@ mod tests;
 mod units;
 
 pub use ahead::is_there;
-pub use expansion::{expand_all, is_expanded};
+pub use expansion::{expand_all, is_expanded, paid_text};
 pub use input::Input;
 pub use laws::{
     a_front_is_its_step, a_front_is_never_stuck, a_full_expansion_is_its_step,

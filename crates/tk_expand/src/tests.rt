@@ -1,6 +1,6 @@
 //! What no clause says: that the calls succeed with ample memory, and some values worked out by hand.
 
-use crate::{Input, Units, expand_all, is_expanded, is_there};
+use crate::{Input, Units, expand_all, is_expanded, is_there, paid_text};
 use std::alloc::Global;
 use std::process::Abort;
 use std::test::Fail;
@@ -73,7 +73,7 @@ const EXPANDED: [(&str, u64, u64, &str); 30] = [
 
 /// A list, a call, what it gives, the units that it costs, and what it leaves. What stands before a `|` is a list that was
 /// put in front of the other. A fault stands at its token, or at 77, where the list runs out.
-const READ: [(&str, &str, &str, u64, &str); 66] = [
+const READ: [(&str, &str, &str, u64, &str); 71] = [
     ("ab", "first", "a", 0, "ab"),
     ("|ab", "first", "a", 0, "ab"),
     ("", "first", "none", 0, ""),
@@ -112,6 +112,11 @@ const READ: [(&str, &str, &str, u64, &str); 66] = [
     ("_", "argument", "MacroArg 9", 0, ""),
     ("_}a", "argument", "MacroArg 9", 0, "a"),
     ("{a{}", "argument", "MacroArg 9", 0, "a{}"),
+    ("_a_{bc}_d", "two", "a;bc;", 0, "_d"),
+    ("{}|bc", "two", ";b;", 0, "c"),
+    ("a_", "two", "MacroArg 9", 0, ""),
+    ("a_}", "two", "MacroArg 9", 0, ""),
+    ("{a", "two", "MacroArg 9", 0, "a"),
     ("Fx", "token", "F", 0, "x"),
     ("_a", "token", "_", 0, "a"),
     ("", "token", "Unbuilt 77", 0, ""),
@@ -142,6 +147,24 @@ const READ: [(&str, &str, &str, u64, &str); 66] = [
     ("H", "next-char a", "Unbuilt 77", 1, ""),
     ("aHb|c", "letters abc", "done", 1, ""),
     ("aFb", "letters a(c", "Unbuilt 2", 4, ")"),
+];
+
+/// Arguments, each with a `;` behind it, the body that they are put in, the budget, the units that are paid, and the text or
+/// the fault. A text costs one unit more than it has tokens.
+const PAID: [(&str, &str, u64, u64, &str); 12] = [
+    ("", "(a)", 4, 4, "(a)"),
+    ("", "(a)", 3, 0, "Budget 5"),
+    ("x;", "(a)", 4, 4, "(a)"),
+    ("x;", "(a)", 3, 0, "Budget 5"),
+    ("x;", "#1", 2, 2, "x"),
+    ("xy;", "(#1#1)", 7, 7, "(xyxy)"),
+    ("xy;", "(#1#1)", 6, 0, "Budget 5"),
+    (";", "#1", 1, 1, ""),
+    (";", "#1", 0, 0, "Budget 5"),
+    ("a;bc;", "#2-#1", 5, 5, "bc-a"),
+    // The place of an argument that isn't there stays.
+    ("a;", "#1-#2", 4, 4, "a-?"),
+    ("", "#2", 2, 2, "?"),
 ];
 
 fn kind_of(character: char) -> Kind {
@@ -207,6 +230,36 @@ fn list_shown(alloc: Global, given: Result<Vec<Tok>, Refusal>) -> Result<String,
     }
 }
 
+/// Lists, with a `;` behind each.
+fn lists_shown(alloc: Global, given: Result<Vec<Vec<Tok>>, Refusal>) -> Result<String, Fail> {
+    let lists = match given {
+        Ok(lists) => lists,
+        Err(refusal) => return refusal_shown(alloc, refusal),
+    };
+    let mut text = String::new(alloc);
+    for list in &lists {
+        text.push_str(shown(alloc, list)?.as_str())?;
+        text.push(';')?;
+    }
+    Ok(text)
+}
+
+fn text_shown(alloc: Global, given: Result<Body, Refusal>) -> Result<String, Fail> {
+    match given {
+        Ok(text) => shown(alloc, text.as_slice()),
+        Err(refusal) => refusal_shown(alloc, refusal),
+    }
+}
+
+/// Lists that have a `;` behind each.
+fn lists(alloc: Global, text: &str) -> Result<Vec<Vec<Tok>>, Fail> {
+    let mut lists = Vec::new(alloc);
+    for list in text.split_terminator(';') {
+        lists.push(toks(alloc, list, 0)?)?;
+    }
+    Ok(lists)
+}
+
 fn found_shown(alloc: Global, found: Option<Vec<Tok>>) -> Result<String, Fail> {
     match found {
         Some(toks) => shown(alloc, &toks),
@@ -249,9 +302,7 @@ fn store(alloc: Global) -> Result<Store, Fail> {
         let Ok(body) = Body::parse(alloc, args, &toks(alloc, body, 100)?) else {
             return Err("no body".into());
         };
-        if args <= 9 {
-            store.set_macro(*word as u32, Macro { args, body })?;
-        }
+        store.set_macro(*word as u32, Macro { args, body })?;
     }
     Ok(store)
 }
@@ -293,6 +344,7 @@ fn taken(alloc: Global, call: &str, text: &str, input: &mut Input) -> Result<Str
         "until" => found_shown(alloc, input.until(first_of(text))?),
         "group" => found_shown(alloc, input.group()?),
         "argument" => list_shown(alloc, input.argument(9)),
+        "two" => lists_shown(alloc, input.arguments(2, 9)),
         "skip" => {
             input.skip_spaces();
             met(alloc, Ok(()))
@@ -375,6 +427,24 @@ fn what_stands_next_is_read(rt: HostRuntime) -> Result<(), Fail> {
         assert_eq!(rt; units.used, used.saturating_add(1), "{text}");
         assert_eq!(rt; input.end(), 77);
         assert_eq!(rt; rest_of(alloc, input)?.as_str(), *rest, "{text}");
+    }
+    Ok(())
+}
+
+#[test]
+fn texts_are_paid_for(rt: HostRuntime) -> Result<(), Fail> {
+    let alloc = rt.alloc();
+    for (arguments, body, budget, used, wanted) in &PAID {
+        let Ok(body) = Body::parse(alloc, 2, &toks(alloc, body, 0)?) else {
+            return Err("no body".into());
+        };
+        let mut units = Units {
+            used: 0,
+            budget: *budget,
+        };
+        let text = paid_text(alloc, &lists(alloc, arguments)?, &body, 5, &mut units);
+        assert_eq!(rt; text_shown(alloc, text)?.as_str(), *wanted);
+        assert_eq!(rt; units.used, *used, "{wanted}");
     }
     Ok(())
 }

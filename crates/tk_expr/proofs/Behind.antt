@@ -18,7 +18,7 @@ use Rattle.tk_expr.specs.declared.machine.Mode.TheVariants.{Wanted, Ordered, Hal
 use Rattle.tk_expr.specs.Evaluates.{is_unit}
 use Rattle.tk_expr.specs.Faults.{Opener, name_behind, open_behind}
 use Rattle.tk_expr.specs.Grammar.{piece, Postfixes, Powers, Products, Sums, Comparisons, Conjunctions, Disjunctions}
-use Rattle.tk_expr.specs.Machine.{Found, State, nothing, applied, powered, multiplied, added, compared, conjoined, disjoined, waiting, product_waits, sum_waits, comparison_waits, waits, wanted_in, opened, operator, comparison, after}
+use Rattle.tk_expr.specs.Machine.{Found, State, nothing, applied, powered, multiplied, added, compared, conjoined, disjoined, waiting, product_waits, sum_waits, comparison_waits, waits, wanted_in, with_frame, operator, comparison, after}
 use Rattle.tk_expr.proofs.Readings.{unit_found, radians_found, Goes, Exponential}
 use Rattle.tk_expr.proofs.Continuations.{Behind, Via, after_disjunction, after_conjunction, after_comparison, comparing, after_sum, after_product, after_signed, after_postfix, after_primary, wants, directly, ends_in, Completes}
 use Rattle.tk_expr.proofs.Closing.{HalfMode}
@@ -106,7 +106,7 @@ module _ (font : FontUnits) where
     }
 
   -- an opener
-  pub opened_is : (c : Ahead) (right comma : ℕ → Ahead) (fits : Option ℕ → Type 0) (m : Mark) (at : ℕ) (f : Frame) (s : State) → Same font c (Completes font (wanted_in (f ∷ s.frames) s)) → Kept font fits s.frames s.unit m at (wanted_in (f ∷ s.frames) s) → StepIs font c right comma fits s.frames s.unit m at (opened at f s)
+  pub opened_is : (c : Ahead) (right comma : ℕ → Ahead) (fits : Option ℕ → Type 0) (m : Mark) (at : ℕ) (f : Frame) (s : State) → Same font c (Completes font (wanted_in (f ∷ s.frames) s)) → Kept font fits s.frames s.unit m at (wanted_in (f ∷ s.frames) s) → StepIs font c right comma fits s.frames s.unit m at (with_frame at f s)
   opened_is c right comma fits m at f s same kept = by (nat_lt (length s.frames) 64) refl
     where
       by : (b : Bool) → nat_lt (length s.frames) 64 ≡ b → StepIs font c right comma fits s.frames s.unit m at (cond b (Ok (wanted_in (f ∷ s.frames) s)) (fault TooDeep at))

@@ -7,7 +7,6 @@ pub mod Evaluations
 pub mod Finishing
 pub mod Fronts
 pub mod Gaps
-pub mod LastToken
 pub mod Letters
 pub mod Levels
 pub mod OneAnswer

@@ -10,7 +10,8 @@ use Rattle.tk_expr.specs.declared.pieces.Piece.{Piece}
 use Rattle.tk_expr.specs.Tree.{Tree}
 use Rattle.tk_expr.specs.Grammar.{IsText}
 use Rattle.tk_expr.specs.Faults.{IsBeginning, Opener, Call, unanswered, open_in, IsShallow, IsMiscount, too_many, too_few}
-use Rattle.tk_expr.specs.Evaluates.{has_unit, valued, IsMisfit, IsTooDeep, IsAnswer, evaluates, misfit, miscount, too_deep, ends, end_of, Evaluates}
+use Rattle.tk_token.specs.Places.{end_of}
+use Rattle.tk_expr.specs.Evaluates.{has_unit, valued, IsMisfit, IsTooDeep, IsAnswer, evaluates, misfit, miscount, too_deep, ends, Evaluates}
 use Rattle.tk_expr.specs.Pieces.{pieces_of}
 use Rattle.tk_expr.proofs.ProperPieces.{AllProper, proper}
 use Rattle.tk_expr.proofs.Runs.{one_text}

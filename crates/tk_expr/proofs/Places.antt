@@ -11,8 +11,8 @@ use Rattle.tk_token.specs.Cutting.{is_letter}
 use Rattle.tk_token.specs.declared.Kind.{Kind}
 use Rattle.tk_token.specs.declared.Kind.TheVariants.{Char}
 use Rattle.tk_token.specs.declared.Tok.{Tok}
-use Rattle.tk_token.specs.Characters as characters
-use Rattle.tk_token.specs.Groups.{Cut, first_outside, before_char, group_of}
+use Rattle.tk_characters.specs.Characters as characters
+use Rattle.tk_token.specs.Groups.{Cut, first_outside, before_char, group_of, alone, contents, unbraced}
 use Rattle.tk_token.specs.Kinds.{is_open, begins_and}
 use Rattle.tk_token.specs.Spaces.{is_space_token, after_spaces}
 use Rattle.tk_token.proofs.Outside.{first_outside_keeps, before_char_keeps, group_keeps}
@@ -39,12 +39,12 @@ use Rattle.tk_expr.specs.declared.machine.Mode.{Mode}
 use Rattle.tk_expr.specs.declared.machine.Mode.TheVariants.{Wanted, Ordered, Half, Named, Dot, Number, Measured, After}
 use Rattle.tk_expr.specs.Number.{Decimal, no_digits, with_digit, with_whole_digit, with_point, plain_value}
 use Rattle.tk_expr.specs.Values.{placed}
-use Rattle.tk_expr.specs.Machine.{Found, State, signed_found, applied, powered, multiplied, added, compared, conjoined, disjoined, product_waits, sum_waits, comparison_waits, waits, waiting_or_same, Closed, choice_found, closed, closed_behind, wanted_in, opened, most_found, bracket_ends, at_right, bracket_goes_on, at_comma, at_colon, to_mode, sign_exponent, sign_operand, begin, ordered, is_half, half, named, operator, comparison, after, dot, measured, number, step_in, step, start, run, operand, value_in, finish_behind, finish}
+use Rattle.tk_expr.specs.Machine.{Found, State, signed_found, applied, powered, multiplied, added, compared, conjoined, disjoined, product_waits, sum_waits, comparison_waits, waits, waiting_or_same, Closed, choice_found, closed, closed_behind, wanted_in, with_frame, most_found, bracket_ends, at_right, bracket_goes_on, at_comma, at_colon, to_mode, sign_exponent, sign_operand, begin, ordered, is_half, half, named, operator, comparison, after, dot, measured, number, step_in, step, start, run, operand, value_in, finish_behind, finish}
 use Rattle.tk_expr.specs.Pieces.{Lump, Letters, Alone, with_letter, with_token, lumps_of, piece_of, pieces_of}
 use Rattle.tk_expr.specs.Evaluated.{evaluated}
-use Rattle.tk_expr.specs.Evaluates.{end_of}
+use Rattle.tk_token.specs.Places.{end_of}
 use Rattle.tk_expr.specs.Places.{IsPlaceOf}
-use Rattle.tk_expr.specs.Pairs.{alone, contents, part, part_value, plane, radii, polar, by_colon, by_comma, paired, length_along, vector_of}
+use Rattle.tk_expr.specs.Pairs.{part_value, plane, radii, polar, by_colon, by_comma, paired, length_along, vector_of}
 
 module _ {A : Type 0} where
   -- what holds at a value, and at a fault
@@ -217,7 +217,7 @@ module _ (Good : ℕ → Type 0) where
   nothing_fine : (fs : List Frame) (s : State) → FramesFine fs → StateFine (wanted_in fs s)
   nothing_fine fs s h = record { mode = tt; pending = record { power = tt; product = tt; sum = tt; comparison = tt; conjunction = tt; disjunction = tt }; frames = h }
 
-  opened_fine : (at : ℕ) (f : Frame) (s : State) → Good at → FrameFine f → StateFine s → Stays (opened at f s)
+  opened_fine : (at : ℕ) (f : Frame) (s : State) → Good at → FrameFine f → StateFine s → Stays (with_frame at f s)
   opened_fine at f s e k h = holds_if StateFine Early (nat_lt (length s.frames) 64) _ _ (nothing_fine (f ∷ s.frames) s (k, h.frames)) e
 
   outside_fine : (v : Found) (p : Pending) (fs : List Frame) (s : State) → Fine v → PendingFine p → FramesFine fs → StateFine (record { mode = After v; pending = p; frames = fs; unit = s.unit })
@@ -472,13 +472,13 @@ module _ (Good : ℕ → Type 0) where
   or_within None ts h k = k
   or_within (Some us) ts h k = h
 
-  part_within : (ts : List Tok) → Within ts → Within (part ts)
-  unfolding part
-  part_within ts h = or_within (contents (after_spaces ts)) ts (contents_within (after_spaces ts) (dropped (prefix_len is_space_token ts) ts h)) h
+  unbraced_within : (ts : List Tok) → Within ts → Within (unbraced ts)
+  unfolding unbraced
+  unbraced_within ts h = or_within (contents (after_spaces ts)) ts (contents_within (after_spaces ts) (dropped (prefix_len is_space_token ts) ts h)) h
 
   module _ (font : FontUnits) (at : ℕ) (here : Good at) where
     value_within : (ts : List Tok) → Within ts → Fine (part_value evaluated font at ts)
-    value_within ts h = evaluated_fine font at (part ts) here (part_within ts h)
+    value_within ts h = evaluated_fine font at (unbraced ts) here (unbraced_within ts h)
 
     plane_within : (front back : List Tok) → Within front → Within back → Fine (plane evaluated font at front back)
     unfolding plane

@@ -31,7 +31,8 @@ use Rattle.tk_expr.specs.declared.machine.Frame.TheVariants.{Inside, Then, Else}
 use Rattle.tk_expr.specs.Tree.{Tree, value}
 use Rattle.tk_expr.specs.Grammar.{piece, IsText}
 use Rattle.tk_expr.specs.Faults.{IsBeginning, Opener, Parenthesis, Call, Asked, Answered, unanswered, name_behind, open_behind, open_from, open_in, IsShallow, IsMiscount, too_many, too_few}
-use Rattle.tk_expr.specs.Evaluates.{is_unit, has_unit, valued, IsMisfit, IsTooDeep, IsAnswer, evaluates, misfit, miscount, too_deep, ends, end_of, Evaluates}
+use Rattle.tk_token.specs.Places.{end_of}
+use Rattle.tk_expr.specs.Evaluates.{is_unit, has_unit, valued, IsMisfit, IsTooDeep, IsAnswer, evaluates, misfit, miscount, too_deep, ends, Evaluates}
 use Rattle.tk_expr.specs.Evaluated.{evaluated}
 use Rattle.tk_expr.specs.Pieces.{pieces_of}
 use Rattle.tk_expr.specs.Machine.{Found, State, start, step, run, finish}

@@ -12,7 +12,7 @@ use Rattle.tk_expr.specs.declared.pieces.Piece.{Piece}
 use Rattle.tk_expr.specs.Number.{Decimal, no_digits, with_digit, with_point, plain_value, unit_value}
 use Rattle.tk_expr.specs.Pieces.{pieces_of}
 use Rattle.tk_expr.specs.Evaluated.{evaluated}
-use Rattle.tk_expr.specs.Evaluates.{end_of}
+use Rattle.tk_token.specs.Places.{end_of}
 use Rattle.tk_expr.specs.Machine.{Found, State, start, step_in, step, run, finish, powered, multiplied, added, compared, conjoined, disjoined}
 use Rattle.tk_expr.specs.Plain.{sign_waits, wanting, counting, pointed, Reaches, signed_value, EndsAs, IsEvaluated}
 

@@ -4,7 +4,7 @@ use Rattle.tk_token.specs.declared.Tok.{Tok}
 use Rattle.tk_token.specs.Answers.{Answer, ◌>>=◌}
 use Rattle.tk_expr.specs.declared.FontUnits.{FontUnits}
 use Rattle.tk_expr.specs.declared.Value.{Value}
-use Rattle.tk_expr.specs.Evaluates.{end_of}
+use Rattle.tk_token.specs.Places.{end_of}
 use Rattle.tk_expr.specs.Machine.{start, run, finish}
 use Rattle.tk_expr.specs.Pieces.{pieces_of}
 

@@ -4,6 +4,7 @@ use Rattle.std.specs.List.{list_any}
 use Rattle.tk_token.specs.declared.Tok.{Tok}
 use Rattle.tk_token.specs.declared.Code.TheVariants.{TooDeep, Expression}
 use Rattle.tk_token.specs.Answers.{Answer, ◌>>=◌, fault}
+use Rattle.tk_token.specs.Places.{end_of}
 use Rattle.tk_expr.specs.declared.FontUnits.{FontUnits}
 use Rattle.tk_expr.specs.declared.Value.{Value}
 use Rattle.tk_expr.specs.declared.pieces.Mark.{Mark}
@@ -69,11 +70,6 @@ pub data IsAnswer (font : FontUnits) (end : ℕ) (ps : List Piece) : Answer Valu
       → IsShallow ps
       → ((t : Tree) → IsText ps t → ⊥)
       → IsAnswer font end ps (fault Expression end)
-
--- where tokens run out: at the last of them, or at that place where there is none
-abbrev pub end_of : ℕ → List Tok → ℕ
-end_of at [] = at
-end_of at (t ∷ ts) = end_of t.at ts
 
 -- tokens and their answer; `at` is the place of no tokens
 abbrev pub Evaluates : FontUnits → ℕ → List Tok → Answer Value → Type 0

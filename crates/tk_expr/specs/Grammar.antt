@@ -12,7 +12,7 @@ use Rattle.tk_expr.specs.declared.pieces.Most.{Most}
 use Rattle.tk_expr.specs.declared.pieces.Mark.{Mark}
 use Rattle.tk_expr.specs.declared.pieces.Mark.TheVariants.{Digit, Point, Measure, Radian, Pi, Single, Double, Several, Plus, Minus, Star, Slash, Caret, Bar, Ampersand, Equals, Bang, Less, Greater, Question, Colon, Comma, Left, Right, Gap}
 use Rattle.tk_expr.specs.declared.pieces.Piece.{Piece}
-use Rattle.tk_token.specs.Characters.{point}
+use Rattle.tk_characters.specs.Characters.{point}
 use Rattle.tk_expr.specs.Pieces.{digit_zero}
 use Rattle.tk_expr.specs.Tree.{Tree, A_number, A_pi, In_unit, In_degrees, Signed, Binary, Choice, Call_one, Call_two, Call_most}
 

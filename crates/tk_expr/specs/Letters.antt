@@ -1,6 +1,6 @@
 -- Private: only the code's own contracts use this. Letters among tokens, as the code looks for them.
 use Rattle.std.specs.Prelude.{ℕ, Bool, false}
-use Rattle.tk_token.specs.Characters.{space}
+use Rattle.tk_characters.specs.Characters.{space}
 use Rattle.tk_token.specs.Cutting.{is_letter}
 use Rattle.tk_token.specs.declared.Kind.{Kind}
 use Rattle.tk_token.specs.declared.Kind.TheVariants.{Char}

@@ -184,8 +184,8 @@ abbrev pub wanted_in : List Frame → State → State
 wanted_in frames s = record { mode = Wanted; pending = nothing; frames = frames; unit = s.unit }
 
 -- an opener at that place: at most 64 are open
-abbrev pub opened : ℕ → Frame → State → Answer State
-opened at frame s = if nat_lt (length s.frames) 64 then Ok (wanted_in (frame ∷ s.frames) s) else fault TooDeep at
+abbrev pub with_frame : ℕ → Frame → State → Answer State
+with_frame at frame s = if nat_lt (length s.frames) 64 then Ok (wanted_in (frame ∷ s.frames) s) else fault TooDeep at
 
 -- an operand was read, with what waits outside its parenthesis
 abbrev pub outside : Found → Pending → List Frame → State → State
@@ -268,7 +268,7 @@ begin (Several f) at s = to_mode (Named (Each f None)) s
 begin Minus at s = sign_operand s.pending.power Negate at s
 begin Plus at s = sign_operand s.pending.power Keep at s
 begin Bang at s = sign_operand s.pending.power Not at s
-begin Left at s = opened at (Inside Plain s.pending) s
+begin Left at s = with_frame at (Inside Plain s.pending) s
 begin Gap at s = to_mode Wanted s
 begin _ at s = fault Expression at
 
@@ -290,7 +290,7 @@ half wanted mark at s = if is_half wanted mark then to_mode Wanted s else fault 
 
 -- one more piece behind the name of a function
 abbrev pub named : Bracket → Mark → ℕ → State → Answer State
-named bracket Left at s = opened at (Inside bracket s.pending) s
+named bracket Left at s = with_frame at (Inside bracket s.pending) s
 named bracket Gap at s = to_mode (Named bracket) s
 named bracket _ at s = fault Expression at
 
@@ -325,7 +325,7 @@ after font x Equals at s = comparison Same (Half Equals) at x s
 after font x Bang at s = comparison Differs (Half Equals) at x s
 after font x Ampersand at s = operator Both (Half Ampersand) at x s
 after font x Bar at s = operator Either (Half Bar) at x s
-after font x Question at s = opened at (Then (disjoined s.pending x)) s
+after font x Question at s = with_frame at (Then (disjoined s.pending x)) s
 after font x Colon at s = at_colon at (closed_behind x s).value (closed_behind x s).frames s
 after font x Comma at s = at_comma at (closed_behind x s).value (closed_behind x s).frames s
 after font x Right at s = at_right at (closed_behind x s).value (closed_behind x s).frames s

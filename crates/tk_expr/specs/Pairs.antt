@@ -1,38 +1,20 @@
 -- The numbers of a coordinate: `x,y`, `a:r` or `a:r and s`.
-use Rattle.std.specs.Prelude.{ℕ, is_some, if◌then◌else◌, List, [], ◌∷◌, drop, Option, Some, None, unwrap_or, Ok, ℤ}
-use Rattle.std.specs.List.{list_all}
+use Rattle.std.specs.Prelude.{ℕ, is_some, if◌then◌else◌, List, drop, Option, Some, None, Ok, ℤ}
 use Rattle.tk_num.specs.Number.{scaled, product}
 use Rattle.tk_num.specs.Angle.{sine, cosine}
 use Rattle.tk_item.specs.declared.Point.{Point}
 use Rattle.tk_token.specs.declared.Code.TheVariants.{Coordinate}
 use Rattle.tk_token.specs.declared.Tok.{Tok}
 use Rattle.tk_token.specs.Answers.{Answer, ◌>>=◌, fault}
-use Rattle.tk_token.specs.Characters.{comma, colon}
-use Rattle.tk_token.specs.Groups.{Cut, first_outside, before_char, group_of}
-use Rattle.tk_token.specs.Kinds.{is_open, begins_and}
-use Rattle.tk_token.specs.Spaces.{is_space_token, after_spaces}
+use Rattle.tk_characters.specs.Characters.{comma, colon}
+use Rattle.tk_token.specs.Groups.{Cut, first_outside, before_char, unbraced}
+use Rattle.tk_token.specs.Kinds.{begins_and}
 use Rattle.tk_expr.specs.declared.FontUnits.{FontUnits}
 use Rattle.tk_expr.specs.declared.Value.{Value}
 use Rattle.tk_expr.specs.declared.ValuePair.{ValuePair}
 use Rattle.tk_expr.specs.declared.ValuePair.TheVariants.{Plane, Polar}
 use Rattle.tk_expr.specs.Values.{placed}
 use Rattle.tk_expr.specs.Evaluates.{Evaluation}
-
--- ---- outer braces
-
--- the contents of a group, where only Spaces stand behind it
-abbrev pub alone : Option Cut → Option (List Tok)
-alone None = None
-alone (Some c) = if list_all is_space_token c.rest then Some c.front else None
-
--- the contents of tokens that are one group and Spaces behind it
-abbrev pub contents : List Tok → Option (List Tok)
-contents [] = None
-contents (t ∷ ts) = if is_open t.kind then alone (group_of ts) else None
-
--- a part of a coordinate: where it is one group, Spaces apart, it is what stands in the braces
-unfoldable pub part : List Tok → List Tok
-part ts = unwrap_or (contents (after_spaces ts)) ts
 
 -- ---- the forms
 
@@ -42,9 +24,9 @@ some_pair found = found >>= λ pair. Ok (Some pair)
 
 -- by an evaluation; `at` is the place of an empty part
 module _ (ev : Evaluation) (font : FontUnits) (at : ℕ) where
-  -- the value of a part
+  -- the value of a part, which may be a group: `{1,2}` is `1,2`
   abbrev pub part_value : List Tok → Answer Value
-  part_value ts = ev font at (part ts)
+  part_value ts = ev font at (unbraced ts)
 
   -- `x,y`: there is no second `,`
   unfoldable pub plane : List Tok → List Tok → Answer ValuePair

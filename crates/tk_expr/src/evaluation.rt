@@ -3,7 +3,7 @@
 ghost use Rattle.std.specs.Prelude.{◌≡◌, ◌∷◌};
 ghost use Rattle.tk_expr.specs.Machine as machine;
 ghost use Rattle.tk_expr.specs.Evaluated as spec;
-ghost use Rattle.tk_expr.specs.Evaluates.{Evaluates, end_of};
+ghost use Rattle.tk_expr.specs.Evaluates.{Evaluates};
 ghost use Rattle.tk_expr.specs.Steps.{Leads};
 ghost use Rattle.tk_expr.specs.Pieces.{pieces_of};
 
@@ -13,17 +13,7 @@ use crate::plain::plain_value;
 use crate::steps::misfit;
 use crate::values::Found;
 use crate::{FontUnits, Value};
-use tk_token::{Fault, Tok};
-
-/// Where tokens run out: at the last of them, or at that place where there is none.
-fn end_of(list: &[Tok], at: u32) -> u32
-    ensures { result ≡ end_of at list.now }
-{
-    match list.split_last() {
-        Some((last, _)) => last.at,
-        None => at,
-    }
-}
+use tk_token::{Fault, Tok, end_of};
 
 /// The operand that was read last.
 fn operand(font: &FontUnits, mode: Mode) -> Option<Found>
@@ -85,7 +75,7 @@ fn by_machine(list: &[Tok], font: &FontUnits, at: u32) -> Result<Value, Fault>
 {
     let mut state = State::new();
     state.run(font, list)?;
-    state.finish(font, end_of(list, at))
+    state.finish(font, end_of(at, list))
 }
 
 /// The value of an expression, and whether a unit stands anywhere in it.

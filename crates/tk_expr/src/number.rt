@@ -1,22 +1,18 @@
 //! Decimals, digit by digit.
 
 ghost use Rattle.std.specs.Prelude.{◌≡◌, ◌+◌, ◌*◌, ◌^◌, ◌<◌, ◌≤◌};
-ghost use Rattle.tk_num.specs.Number.{nearest_65536th};
 ghost use Rattle.tk_expr.specs.Number as spec;
 
 use crate::FontUnits;
 use crate::values::{Found, decimal_in, placed};
 use std::marker::Model;
-use tk_num::Unit;
+use tk_num::{Unit, nearest_65536th};
 
 /// A whole part that is past the greatest.
 const PAST_WHOLE: u64 = 1_073_741_824;
 
 /// The digits after the point that count.
 const MOST_PLACES: u32 = 17;
-
-/// So many digits after the point can be counted in 64 bits.
-const SHORT_PLACES: u32 = 12;
 
 /// A decimal as far as it is read: its whole part, which stays at 1,073,741,824 once it is there, and the first digits
 /// after its point, at most 17, as one number, with their count. `at` is the place of its first digit or point.
@@ -125,7 +121,7 @@ impl Decimal {
         ensures value { result ≡ spec.total self }
         ensures small { result ≤ 9223372036854775807 }
     {
-        65_536 * self.whole + nearest(self.part, self.count)
+        65_536 * self.whole + nearest_65536th(self.count, self.part)
     }
 
     /// Its value without a unit; TooLarge at its place where that is out of range.
@@ -142,41 +138,4 @@ impl Decimal {
     {
         placed(self.at, decimal_in(font, Some(unit), self.total()))
     }
-}
-
-/// The 65536ths nearest to the digits of a fraction, ties upward.
-#[inline(always)]
-fn nearest(part: u64, count: u32) -> u64
-    requires few { count ≤ 17 }
-    requires below { part + 29 ≤ 29 * 10 ^ count }
-    ensures value { result ≡ nearest_65536th count part }
-    ensures small { result ≤ 1900544 }
-{
-    match count {
-        0 => 0,
-        1..=SHORT_PLACES => nearest_short(part, count),
-        _ => nearest_long(part, count),
-    }
-}
-
-/// The same in 64 bits.
-fn nearest_short(part: u64, count: u32) -> u64
-    requires few { count ≤ 12 }
-    requires below { part + 29 ≤ 29 * 10 ^ count }
-    ensures value { result ≡ nearest_65536th count part }
-    ensures small { result ≤ 1900544 }
-{
-    let unit = 10u64.pow(count);
-    (131_072 * part + unit) / (2 * unit)
-}
-
-/// The same in 128 bits.
-fn nearest_long(part: u64, count: u32) -> u64
-    requires few { count ≤ 17 }
-    requires below { part + 29 ≤ 29 * 10 ^ count }
-    ensures value { result ≡ nearest_65536th count part }
-    ensures small { result ≤ 1900544 }
-{
-    let unit = 10u128.pow(count);
-    ((131_072 * u128::from(part) + unit) / (2 * unit)) as u64
 }

@@ -1,12 +1,10 @@
 //! The numbers of a coordinate.
 
 ghost use Rattle.std.specs.Prelude.{◌≡◌, ℤ, drop, option_map};
-ghost use Rattle.std.specs.List.{list_all};
 ghost use Rattle.tk_expr.specs.declared.ValuePair.TheVariants.{Plane, Polar};
 ghost use Rattle.tk_token.specs.Groups as groups;
 ghost use Rattle.tk_token.specs.Groups.{cut, first_outside};
 ghost use Rattle.tk_token.specs.Kinds.{begins_and};
-ghost use Rattle.tk_token.specs.Spaces.{is_space_token};
 ghost use Rattle.tk_expr.specs.Evaluated.{evaluated};
 ghost use Rattle.tk_expr.specs.Evaluates.{Evaluation, IsEvaluation};
 ghost use Rattle.tk_expr.specs.Pairs as spec;
@@ -16,7 +14,7 @@ use crate::values::{Found, placed};
 use crate::{FontUnits, Value, ValuePair};
 use tk_item::Point;
 use tk_num::{Scaled, cos, mul, sin};
-use tk_token::{Code, Fault, Sought, Tok, after_spaces, first_outside};
+use tk_token::{Code, Fault, Sought, Tok, first_outside, unbraced};
 
 /// The tokens without the first ones, so many.
 fn without(list: &[Tok], n: usize) -> &[Tok]
@@ -37,52 +35,11 @@ fn before_char(list: &[Tok], wanted: char) -> Option<(&[Tok], &[Tok])>
     Some((front, without(rest, 1)))
 }
 
-fn are_spaces(list: &[Tok]) -> bool
-    ensures { result ≡ list_all is_space_token list.now }
-{
-    list.iter().all(|tok| tok.kind.is_space())
-}
-
-/// The contents of a group whose `{` was read, where only Spaces stand behind its `}`.
-fn alone(list: &[Tok]) -> Option<&[Tok]>
-    ensures { option_map (λ inside. inside.now) result ≡ spec.alone (groups.group_of list.now) }
-{
-    let (inside, rest) = first_outside(list, Sought::Close)?;
-    if are_spaces(without(rest, 1)) {
-        Some(inside)
-    } else {
-        None
-    }
-}
-
-/// The contents of tokens that are one group and Spaces behind it.
-fn contents(list: &[Tok]) -> Option<&[Tok]>
-    ensures { option_map (λ inside. inside.now) result ≡ spec.contents list.now }
-{
-    let (first, rest) = list.split_first()?;
-    if first.kind.is_open() {
-        alone(rest)
-    } else {
-        None
-    }
-}
-
-/// A part of a coordinate: where it is one group, Spaces apart, it is what stands in the braces.
-#[tactic(auto, unfolding(crate::specs::Pairs::part))]
-fn part(list: &[Tok]) -> &[Tok]
-    ensures { result.now ≡ spec.part list.now }
-{
-    match contents(after_spaces(list)) {
-        Some(inside) => inside,
-        None => list,
-    }
-}
-
-/// The value of a part; `at` is the place of an empty one.
+/// The value of a part, which may be a group; `at` is the place of an empty one.
 fn part_value(list: &[Tok], font: &FontUnits, at: u32) -> Result<Value, Fault>
     ensures { result ≡ spec.part_value evaluated font.now at list.now }
 {
-    evaluate(part(list), font, at)
+    evaluate(unbraced(list), font, at)
 }
 
 /// The form `x,y`, which has no second `,`.

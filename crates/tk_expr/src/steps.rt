@@ -132,7 +132,7 @@ impl State {
 
     /// Opens a parenthesis or a `?`; TooDeep where 64 are open.
     fn open(&mut self, frame: Frame, at: u32) -> Result<(), Fault>
-        ensures { Leads result self.new (spec.opened at frame self.old) }
+        ensures { Leads result self.new (spec.with_frame at frame self.old) }
     {
         self.frames.push(frame, at)?;
         self.want();
@@ -356,7 +356,8 @@ impl State {
 
     /// A `?` behind an operand.
     fn ask(&mut self, x: Found, at: u32) -> Result<(), Fault>
-        ensures { Leads result self.new (spec.opened at (Then (spec.disjoined self.old.pending x)) self.old) }
+        ensures { Leads result self.new
+            (spec.with_frame at (Then (spec.disjoined self.old.pending x)) self.old) }
     {
         let condition = self.pending.disjoined(x);
         self.open(Frame::Then(condition), at)

@@ -7,9 +7,9 @@ use Rattle.tk_token.specs.declared.Kind.{Kind}
 use Rattle.tk_token.specs.declared.Kind.TheVariants.{Char, Word, Symbol, Open, Close, Param, Arg, Space}
 use Rattle.tk_token.specs.declared.Tok.{Tok}
 use Rattle.tk_token.specs.Answers.{Answer, ◌>>=◌, fault, or_fault}
-use Rattle.tk_token.specs.Characters.{star, left_bracket, right_bracket}
+use Rattle.tk_characters.specs.Characters.{star, left_bracket, right_bracket}
 use Rattle.tk_token.specs.Groups.{Cut, group_of}
-use Rattle.tk_token.specs.Kinds.{is_char, is_open, is_close, is_param}
+use Rattle.tk_token.specs.Kinds.{word_of, is_char, is_open, is_close, is_param}
 use Rattle.tk_store.specs.Bodies.{digit_of, itself, argument_at, hash_before, body_of}
 use Rattle.tk_store.specs.Levels.{Macros}
 use Rattle.tk_expand.specs.Unread.{Unread, unread, past_spaces}
@@ -19,7 +19,7 @@ use Rattle.tk_expand.proofs.Places.{StandAt, Stands, StreamAt, CutAt, BodiesAt, 
 use Rattle.tk_define.specs.declared.Command.{Command}
 use Rattle.tk_define.specs.declared.Command.TheVariants.{Def, Edef, NewCommand}
 use Rattle.tk_define.specs.declared.Definition.{Definition}
-use Rattle.tk_define.specs.Heads.{word_of, digit, parameters, name_start, braced_name, name_from, name_of, bracketed_count, count_from, count_of}
+use Rattle.tk_define.specs.Heads.{digit, parameters, name_start, braced_name, name_from, name_of, bracketed_count, count_from, count_of}
 use Rattle.tk_define.specs.Definitions.{body_in, def, new_command, Defined, for_nothing, edef, defined}
 use Rattle.tk_keys.proofs.Reading.{Within, TokenWithin, spaces_within, token_within, after_token_within, value_within}
 use Rattle.tk_keys.proofs.Standing.{then_at, if_at, both_at}

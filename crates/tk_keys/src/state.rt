@@ -1,6 +1,6 @@
 //! The state of a run.
 
-ghost use Rattle.std.specs.Prelude.{◌≡◌, ℕ, ◌∷◌, ◌<◌, ◌≤◌, length, IfOk, OnOk, MatchResult, Ok, Err};
+ghost use Rattle.std.specs.Prelude.{◌≡◌, ℕ, ◌∷◌, ◌+◌, ◌<◌, ◌≤◌, length, IfOk, OnOk, MatchResult, Ok, Err};
 ghost use Rattle.tk_token.specs.Refusals.{Gives};
 ghost use Rattle.tk_store.specs.Levels.{opened};
 ghost use Rattle.tk_token.specs.Kinds.{is_char};
@@ -169,11 +169,14 @@ impl State {
         Ok(())
     }
 
-    /// Closes the last level: what was set at it ends. This takes no memory.
+    /// Closes the last level: what was set at it ends. This takes no memory, and looks only at what was set: a step is one
+    /// setting that is undone.
     pub fn close<L: Ledger>(&mut self, steps: &mut Steps<L>)
         requires { 0 < length self.old.levels.outer }
         ensures levels { self.old.levels.outer ≡ self.new.levels.top ∷ self.new.levels.outer }
         ensures kept { self.new ≡ record self.old { levels = self.new.levels } }
+        ensures low { steps.old ≤ steps.new }
+        ensures high { steps.new ≤ steps.old + self.old.levels.top.settings }
     {
         self.store.close(steps);
     }

@@ -3,6 +3,7 @@ use Rattle.std.specs.Prelude.{ℕ, zero, suc, ◌+◌, ◌*◌, ◌/◌, ◌%◌
 use Rattle.std.specs.List.{list_all, before_first, after_first}
 use Rattle.std.specs.Char.{is_ascii_digit}
 use Rattle.std.specs.Str.Parse.{digits_value}
+use Rattle.tk_characters.specs.Characters.{point}
 use Rattle.tk_num.specs.declared.NumFault.{NumFault}
 use Rattle.tk_num.specs.declared.NumFault.TheVariants.{TooLarge, DivZero, Domain}
 
@@ -49,10 +50,6 @@ square_root (negsuc n) = Err Domain
 -- the 65536ths nearest to the fraction whose n digits after the point are those of m, ties upward (Knuth, TeX: The Program, section 102)
 abbrev pub nearest_65536th : ℕ → ℕ → ℕ
 nearest_65536th n m = (131072 * m + 10 ^ n) / (2 * 10 ^ n)
-
--- the byte of a point
-abbrev pub point : ℕ
-point = 46
 
 -- a point
 abbrev pub is_point : ℕ → Bool

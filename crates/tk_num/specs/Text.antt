@@ -1,7 +1,8 @@
 -- The text of a number.
 use Rattle.std.specs.Prelude.{◌≡◌, ℕ, zero, suc, ◌+◌, ◌-◌, ◌*◌, ◌/◌, ◌%◌, ◌^◌, ◌<◌, ◌≤◌, Bool, true, false, ◌==◌, if◌then◌else◌, List, [], ◌∷◌, ◌++◌, length, ℤ, pos, negsuc, unsigned_abs, codes, decimal}
 use Rattle.std.specs.Str.Parse.{digits_value}
-use Rattle.tk_num.specs.Number.{point, nearest_65536th, whole_digits, part_digits, is_decimal, decimal_value}
+use Rattle.tk_characters.specs.Characters.{point}
+use Rattle.tk_num.specs.Number.{nearest_65536th, whole_digits, part_digits, is_decimal, decimal_value}
 
 -- ---- the choice among all texts
 

@@ -5,7 +5,7 @@ use Rattle.tk_item.specs.declared.Seg.TheVariants.{Move, Line, Curve, Close}
 use Rattle.tk_token.specs.declared.Code.TheVariants.{Unbuilt}
 use Rattle.tk_token.specs.declared.Tok.{Tok}
 use Rattle.tk_token.specs.Answers.{Answer, ◌>>=◌, fault}
-use Rattle.tk_token.specs.Characters.{dash}
+use Rattle.tk_characters.specs.Characters.{dash}
 use Rattle.tk_token.specs.Kinds.{is_char}
 use Rattle.tk_token.specs.Spaces.{after_spaces}
 use Rattle.tk_token.proofs.Answering.{then_is}

@@ -7,7 +7,7 @@ use Rattle.tk_item.specs.declared.Seg.TheVariants.{Move, Line, Close}
 use Rattle.tk_token.specs.declared.Code.TheVariants.{Budget, Unbuilt}
 use Rattle.tk_token.specs.declared.Tok.{Tok}
 use Rattle.tk_token.specs.Answers.{Answer, ◌>>=◌, fault, or_fault}
-use Rattle.tk_token.specs.Characters.{dash, semicolon, left_parenthesis, right_parenthesis}
+use Rattle.tk_characters.specs.Characters.{dash, semicolon, left_parenthesis, right_parenthesis}
 use Rattle.tk_token.specs.Groups.{Cut, first_outside, before_char, closer_of}
 use Rattle.tk_token.specs.Kinds.{is_char, begins_corner}
 use Rattle.tk_token.specs.Spaces.{is_space_token, after_spaces, before_spaces, trimmed}

@@ -4,7 +4,7 @@ use Rattle.tk_item.specs.declared.Point.{Point}
 use Rattle.tk_token.specs.declared.Tok.{Tok}
 use Rattle.tk_token.specs.declared.Code.TheVariants.{Unbuilt}
 use Rattle.tk_token.specs.Answers.{Answer, ◌>>=◌, fault, or_fault}
-use Rattle.tk_token.specs.Characters.{left_parenthesis, right_parenthesis}
+use Rattle.tk_characters.specs.Characters.{left_parenthesis, right_parenthesis}
 use Rattle.tk_token.specs.Groups.{first_outside, before_char, closer_of}
 use Rattle.tk_token.specs.Kinds.{is_char, begins_corner}
 use Rattle.tk_token.specs.Spaces.{trimmed}

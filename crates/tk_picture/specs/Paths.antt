@@ -4,7 +4,7 @@ use Rattle.tk_item.specs.declared.Seg.{Seg}
 use Rattle.tk_item.specs.declared.Seg.TheVariants.{Move, Line, Close}
 use Rattle.tk_token.specs.declared.Code.TheVariants.{Budget}
 use Rattle.tk_token.specs.Answers.{Answer, ◌>>=◌, fault}
-use Rattle.tk_token.specs.Characters.{dash, semicolon}
+use Rattle.tk_characters.specs.Characters.{dash, semicolon}
 use Rattle.tk_token.specs.Kinds.{is_char}
 use Rattle.tk_token.specs.Recursion.{by_size}
 use Rattle.tk_expand.specs.Reading.{is_there}

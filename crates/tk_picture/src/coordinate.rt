@@ -4,7 +4,7 @@ ghost use Rattle.std.specs.Prelude.{◌≡◌, List, IfOk, OnOk};
 ghost use Rattle.tk_item.specs.declared.Seg.{Seg as ASeg};
 ghost use Rattle.tk_token.specs.declared.Code.TheVariants.{Unbuilt};
 ghost use Rattle.tk_token.specs.Answers.{or_fault};
-ghost use Rattle.tk_token.specs.Characters.{right_parenthesis};
+ghost use Rattle.tk_characters.specs.Characters.{right_parenthesis};
 ghost use Rattle.tk_token.specs.Groups.{cut, before_char};
 ghost use Rattle.tk_token.specs.Refusals.{Gives};
 ghost use Rattle.tk_expand.specs.Tells.{Tells};

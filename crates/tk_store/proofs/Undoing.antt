@@ -1,57 +1,55 @@
 -- A store's levels after each of its calls. A level further out is what is left once all later settings are undone, so a
 -- setting leaves it where what it replaced undoes it (`levels_set`), `open` only marks where it is (`open_is`), and `close`
 -- undoes one setting after the other (`one_undone`) until the mark is reached (`close_is`).
-use Rattle.std.proofs.Common.{◌≡◌, ℕ, suc, ◌+◌, ◌-◌, ◌≤◌, ◌<◌, eqb, List, [], ◌∷◌, ◌++◌, length, take, drop, Option, Some, None, IsSome, refl, sym, ap, subst, ◌∙◌, arith}
-use Rattle.std.specs.List.{position_or_len}
-use Rattle.std.specs.Map.{lookup, keys_of}
-use Rattle.std.specs.Option.{option_to_list}
+use Rattle.std.proofs.Common.{◌≡◌, ℕ, suc, ◌+◌, ◌-◌, ◌≤◌, List, [], ◌∷◌, ◌++◌, length, take, drop, refl, sym, ap, subst, ◌∙◌, arith}
 use Rattle.std.specs.FinMap as map
+use Rattle.tk_store.specs.declared.Entry.{Entry}
 use Rattle.tk_store.specs.declared.Macro.{Macro}
 use Rattle.tk_store.specs.declared.tables.Saved.{Saved}
-use Rattle.tk_store.specs.declared.tables.Saved.TheVariants.{Macro as Replaced, NoMacro}
-use Rattle.tk_store.specs.Levels.{Level, opened, SetsMacro}
-use Rattle.tk_store.specs.Undo.{Entries, macros_of, before, before_all, made_since, made_until, settings_at, level_of, outer_of, levels_of, AreMarks}
-use Rattle.std.proofs.lemmas.List.{length-drop, append-nil}
-use Rattle.indexmap.specs.IndexMap.{insert_entry, set_value_at}
-use Rattle.tk_store.proofs.Places.{replaced_back, added_back}
+use Rattle.tk_store.specs.declared.tables.Saved.TheVariants.{Macro as Replaced, NoMacro, Key as ReplacedKey, NoKey}
+use Rattle.tk_store.specs.Levels.{Level, Levels, opened, CountsOne, SetsMacro, SetsKey}
+use Rattle.tk_store.specs.Undo.{Tables, macros_in, keys_in, before, before_all, made_since, made_until, settings_at, level_of, outer_of, levels_of, AreMarks}
+use Rattle.std.proofs.lemmas.List.{length-drop}
+use Rattle.indexmap.specs.IndexMap.{set_value_at}
+use Rattle.tk_store.proofs.Places.{added_back}
 
 -- ---- the levels further out
 
 -- where so many settings were made at the last level
-outer_at : ℕ → List Saved → List ℕ → Entries → List Level
-outer_at made saved marks entries =
-    level_of (before_all (take made saved) entries) (settings_at (length (drop made saved)) marks)
-    ∷ outer_of (drop made saved) marks (before_all (take made saved) entries)
+outer_at : ℕ → List Saved → List ℕ → Tables → List Level
+outer_at made saved marks tables =
+    level_of (before_all (take made saved) tables) (settings_at (length (drop made saved)) marks)
+    ∷ outer_of (drop made saved) marks (before_all (take made saved) tables)
 
-outer_is : (saved : List Saved) (mark : ℕ) (marks : List ℕ) (entries : Entries)
-    → outer_of saved (mark ∷ marks) entries ≡ outer_at (length saved - mark) saved marks entries
+outer_is : (saved : List Saved) (mark : ℕ) (marks : List ℕ) (tables : Tables)
+    → outer_of saved (mark ∷ marks) tables ≡ outer_at (length saved - mark) saved marks tables
 unfolding outer_of outer_at
-outer_is saved mark marks entries = refl
+outer_is saved mark marks tables = refl
 
-outer_one_more : (made : ℕ) (s : Saved) (saved : List Saved) (marks : List ℕ) (entries : Entries)
-    → outer_at (suc made) (s ∷ saved) marks entries ≡ outer_at made saved marks (before s entries)
+outer_one_more : (made : ℕ) (s : Saved) (saved : List Saved) (marks : List ℕ) (tables : Tables)
+    → outer_at (suc made) (s ∷ saved) marks tables ≡ outer_at made saved marks (before s tables)
 unfolding outer_at before_all
-outer_one_more made s saved marks entries = refl
+outer_one_more made s saved marks tables = refl
 
-outer_none : (saved : List Saved) (marks : List ℕ) (entries : Entries)
-    → outer_at 0 saved marks entries ≡ level_of entries (settings_at (length saved) marks) ∷ outer_of saved marks entries
+outer_none : (saved : List Saved) (marks : List ℕ) (tables : Tables)
+    → outer_at 0 saved marks tables ≡ level_of tables (settings_at (length saved) marks) ∷ outer_of saved marks tables
 unfolding outer_at before_all
-outer_none saved marks entries = refl
+outer_none saved marks tables = refl
 
 -- there are as many as marks
-pub outer_length : (saved : List Saved) (marks : List ℕ) (entries : Entries) → length (outer_of saved marks entries) ≡ length marks
+pub outer_length : (saved : List Saved) (marks : List ℕ) (tables : Tables) → length (outer_of saved marks tables) ≡ length marks
 unfolding outer_of
-outer_length saved [] entries = refl
-outer_length saved (mark ∷ marks) entries =
-    ap suc (outer_length (made_until mark saved) marks (before_all (made_since mark saved) entries))
+outer_length saved [] tables = refl
+outer_length saved (mark ∷ marks) tables =
+    ap suc (outer_length (made_until mark saved) marks (before_all (made_since mark saved) tables))
 
-outer_empty : (saved : List Saved) (entries : Entries) → outer_of saved [] entries ≡ []
+outer_empty : (saved : List Saved) (tables : Tables) → outer_of saved [] tables ≡ []
 unfolding outer_of
-outer_empty saved entries = refl
+outer_empty saved tables = refl
 
 -- ---- a setting
 
-outer_set : (saved : List Saved) (marks : List ℕ) (old new : Entries) (s : Saved)
+outer_set : (saved : List Saved) (marks : List ℕ) (old new : Tables) (s : Saved)
     → before s new ≡ old → AreMarks (length saved) marks → outer_of (s ∷ saved) marks new ≡ outer_of saved marks old
 unfolding outer_of AreMarks
 outer_set saved [] old new s back marked = refl
@@ -74,7 +72,7 @@ marks_more n [] marked = tt
 marks_more n (mark ∷ marks) marked = (omega (arith, marked.0), marked.1)
 
 -- where what a setting replaced undoes it, only the last level is another
-module _ (saved all : List Saved) (marks : List ℕ) (old new : Entries) (s : Saved) (are : all ≡ s ∷ saved)
+module _ (saved all : List Saved) (marks : List ℕ) (old new : Tables) (s : Saved) (are : all ≡ s ∷ saved)
     (marked : AreMarks (length saved) marks) where
   pub levels_set : before s new ≡ old
       → levels_of all marks new ≡ record (levels_of saved marks old) { top = level_of new (settings_at (length all) marks) }
@@ -89,29 +87,31 @@ module _ (saved all : List Saved) (marks : List ℕ) (old new : Entries) (s : Sa
   pub marks_set : AreMarks (length all) marks
   marks_set = subst (λ (l : List Saved). AreMarks (length l) marks) (sym are) (marks_more (length saved) marks marked)
 
--- a word has a macro at a level
-pub set_at_level : (saved all : List Saved) (marks : List ℕ) (old new : Entries) (s : Saved) (word : ℕ) (value : Macro)
+-- the last level has those tables, and at most one more setting; all else stays
+pub record Changes (old new : Levels) (tables : Tables) : Type 0 where
+  pub levels : new ≡ record old { top = level_of tables new.top.settings }
+  pub settings : CountsOne old new
+
+-- at a level that is open
+pub changes_level : (saved all : List Saved) (marks : List ℕ) (old new : Tables) (s : Saved)
     → all ≡ s ∷ saved
     → before s new ≡ old
-    → macros_of new ≡ map.insert (macros_of old) word value
     → AreMarks (length saved) marks
-    → SetsMacro (levels_of saved marks old) (levels_of all marks new) word value
-set_at_level saved all marks old new s word value are back is marked =
+    → Changes (levels_of saved marks old) (levels_of all marks new) new
+changes_level saved all marks old new s are back marked =
     let count : settings_at (length all) marks ≡ settings_at (length saved) marks + 1 =
     one_setting_more saved all marks old new s are marked in
     record {
-      levels = levels_set saved all marks old new s are marked back
-          ∙ (λ i. record { outer = outer_of saved marks old; top = record { macros = is i; settings = settings_at (length all) marks } });
-      settings = (omega (arith, count), omega (arith, count));
+      levels = levels_set saved all marks old new s are marked back;
+      settings = record { low = omega (arith, count); high = omega (arith, count) };
     }
 
--- and while no level is open
-pub set_at_bottom : (saved all : List Saved) (marks : List ℕ) (old new : Entries) (word : ℕ) (value : Macro)
+-- and while none is
+pub changes_bottom : (saved all : List Saved) (marks : List ℕ) (old new : Tables)
     → all ≡ saved
     → marks ≡ []
-    → macros_of new ≡ map.insert (macros_of old) word value
-    → SetsMacro (levels_of saved marks old) (levels_of all marks new) word value
-set_at_bottom saved all marks old new word value are none is =
+    → Changes (levels_of saved marks old) (levels_of all marks new) new
+changes_bottom saved all marks old new are none =
     let outer : outer_of all marks new ≡ outer_of saved marks old =
     ap (λ (l : List ℕ). outer_of all l new) none
     ∙ outer_empty all new
@@ -120,59 +120,90 @@ set_at_bottom saved all marks old new word value are none is =
     let count : settings_at (length all) marks ≡ settings_at (length saved) marks =
     ap (λ (l : List Saved). settings_at (length l) marks) are in
     record {
-      levels = λ i. record { outer = outer i; top = record { macros = is i; settings = settings_at (length all) marks } };
-      settings = (omega (arith, count), omega (arith, count));
+      levels = λ i. record { outer = outer i; top = level_of new (settings_at (length all) marks) };
+      settings = record { low = omega (arith, count); high = omega (arith, count) };
     }
 
--- what it replaced undoes it: a macro at its place
-pub undoes_replaced : (es fs : List (ℕ × Macro)) (word place : ℕ) (value old : Macro) (s : Saved)
-    → s ≡ Replaced place old
-    → fs ≡ insert_entry eqb es word value
-    → place ≡ position_or_len (eqb word) (keys_of es)
-    → lookup (eqb word) es ≡ Some old
-    → before s (record { macros = fs }) ≡ record { macros = es }
-undoes_replaced es fs word place value old s is are at has =
-    let back : set_value_at fs place old ≡ es =
-    ap (λ (l : List (ℕ × Macro)). set_value_at l place old) are
-    ∙ ap (λ (n : ℕ). set_value_at (insert_entry eqb es word value) n old) at
-    ∙ replaced_back es word value old has in
-    ap (λ (x : Saved). before x (record { macros = fs })) is ∙ (λ i. record { macros = back i })
+module _ (saved : List Saved) (marks : List ℕ) (old tables : Tables) (new : Levels)
+    (changes : Changes (levels_of saved marks old) new tables) where
+  -- a word is set
+  pub sets_macro : (word : ℕ) (value : Macro)
+      → macros_in tables ≡ map.insert (macros_in old) word value
+      → keys_in tables ≡ keys_in old
+      → SetsMacro (levels_of saved marks old) new word value
+  sets_macro word value is same = record {
+    levels = changes.levels
+        ∙ (λ i. record { outer = outer_of saved marks old; top = record { macros = is i; keys = same i; settings = new.top.settings } });
+    settings = changes.settings;
+  }
 
--- or nothing, where the entry is new
-pub undoes_added : (es fs : List (ℕ × Macro)) (e : ℕ × Macro) (s : Saved)
-    → s ≡ NoMacro
-    → fs ≡ es ++ e ∷ []
-    → before s (record { macros = fs }) ≡ record { macros = es }
-undoes_added es fs e s is are =
-    let back : take (length fs - 1) fs ≡ es = ap (λ (l : List (ℕ × Macro)). take (length l - 1) l) are ∙ added_back es e in
-    ap (λ (x : Saved). before x (record { macros = fs })) is ∙ (λ i. record { macros = back i })
+  -- a key is set
+  pub sets_key : (path : List ℕ) (entry : Entry)
+      → keys_in tables ≡ map.insert (keys_in old) path entry
+      → macros_in tables ≡ macros_in old
+      → SetsKey (levels_of saved marks old) new path entry
+  sets_key path entry is same = record {
+    levels = changes.levels
+        ∙ (λ i. record { outer = outer_of saved marks old; top = record { macros = same i; keys = is i; settings = new.top.settings } });
+    settings = changes.settings;
+  }
 
--- the last entry is taken, where there is one
-pub last_taken : (es fs : List (ℕ × Macro)) (last : Option (ℕ × Macro))
-    → es ≡ fs ++ option_to_list last
-    → (0 < length es → IsSome last)
-    → fs ≡ take (length es - 1) es
-last_taken [] fs None are some = sym (are ∙ append-nil fs)
-last_taken (e ∷ es) fs None are some = let has = some (omega arith) in cc
-last_taken es fs (Some e) are some = sym (ap (λ (l : List (ℕ × Macro)). take (length l - 1) l) are ∙ added_back fs e)
+-- ---- what a setting replaced undoes it
+
+module _ (old : Tables) (s : Saved) where
+  -- a macro at its place
+  pub undoes_macro : (macros : List (ℕ × Macro)) (place : ℕ) (value : Macro)
+      → s ≡ Replaced place value
+      → set_value_at macros place value ≡ old.macros
+      → before s (record old { macros = macros }) ≡ old
+  undoes_macro macros place value is back =
+      ap (λ (x : Saved). before x (record old { macros = macros })) is ∙ (λ i. record old { macros = back i })
+
+  -- or nothing, where the word is new
+  pub undoes_new_macro : (macros : List (ℕ × Macro)) (e : ℕ × Macro)
+      → s ≡ NoMacro
+      → macros ≡ old.macros ++ e ∷ []
+      → before s (record old { macros = macros }) ≡ old
+  undoes_new_macro macros e is are =
+      let back : take (length macros - 1) macros ≡ old.macros =
+      ap (λ (l : List (ℕ × Macro)). take (length l - 1) l) are ∙ added_back old.macros e in
+      ap (λ (x : Saved). before x (record old { macros = macros })) is ∙ (λ i. record old { macros = back i })
+
+  -- an entry at its place
+  pub undoes_key : (keys : List (List ℕ × Entry)) (place : ℕ) (entry : Entry)
+      → s ≡ ReplacedKey place entry
+      → set_value_at keys place entry ≡ old.keys
+      → before s (record old { keys = keys }) ≡ old
+  undoes_key keys place entry is back =
+      ap (λ (x : Saved). before x (record old { keys = keys })) is ∙ (λ i. record old { keys = back i })
+
+  -- or nothing, where the key is new
+  pub undoes_new_key : (keys : List (List ℕ × Entry)) (e : List ℕ × Entry)
+      → s ≡ NoKey
+      → keys ≡ old.keys ++ e ∷ []
+      → before s (record old { keys = keys }) ≡ old
+  undoes_new_key keys e is are =
+      let back : take (length keys - 1) keys ≡ old.keys =
+      ap (λ (l : List (List ℕ × Entry)). take (length l - 1) l) are ∙ added_back old.keys e in
+      ap (λ (x : Saved). before x (record old { keys = keys })) is ∙ (λ i. record old { keys = back i })
 
 -- ---- opening
 
 -- one more level is open
-pub open_is : (saved : List Saved) (marks all : List ℕ) (entries : Entries) (n : ℕ)
+pub open_is : (saved : List Saved) (marks all : List ℕ) (tables : Tables) (n : ℕ)
     → n ≡ length saved
     → all ≡ n ∷ marks
-    → levels_of saved all entries ≡ opened (levels_of saved marks entries)
-open_is saved marks all entries n is are i =
+    → levels_of saved all tables ≡ opened (levels_of saved marks tables)
+open_is saved marks all tables n is are i =
     let none : length saved - n ≡ 0 = omega (arith, is) in
-    let outer : outer_of saved all entries ≡ level_of entries (settings_at (length saved) marks) ∷ outer_of saved marks entries =
-    ap (λ (l : List ℕ). outer_of saved l entries) are
-    ∙ outer_is saved n marks entries
-    ∙ ap (λ (k : ℕ). outer_at k saved marks entries) none
-    ∙ outer_none saved marks entries in
+    let outer : outer_of saved all tables ≡ level_of tables (settings_at (length saved) marks) ∷ outer_of saved marks tables =
+    ap (λ (l : List ℕ). outer_of saved l tables) are
+    ∙ outer_is saved n marks tables
+    ∙ ap (λ (k : ℕ). outer_at k saved marks tables) none
+    ∙ outer_none saved marks tables in
     record {
       outer = outer i;
-      top = record { macros = macros_of entries; settings = (ap (settings_at (length saved)) are ∙ none) i };
+      top = level_of tables ((ap (settings_at (length saved)) are ∙ none) i);
     }
 
 pub marks_open : (count n : ℕ) (marks all : List ℕ) → n ≡ count → all ≡ n ∷ marks → AreMarks count marks → AreMarks count all
@@ -191,7 +222,7 @@ module _ (saved less : List Saved) (s : Saved) (mark : ℕ) (are : saved ≡ s �
   more : suc (length less) - mark ≡ suc (length less - mark)
   more = omega (arith, enough)
 
-  pub one_undone : (old new : Entries) → new ≡ before s old
+  pub one_undone : (old new : Tables) → new ≡ before s old
       → before_all (made_since mark less) new ≡ before_all (made_since mark saved) old
   unfolding before_all
   one_undone old new is =
@@ -207,16 +238,16 @@ module _ (saved : List Saved) (mark : ℕ) (few : length saved ≤ mark) where
   none : length saved - mark ≡ 0
   none = omega (arith, few)
 
-  pub none_undone : (entries : Entries) → before_all (made_since mark saved) entries ≡ entries
+  pub none_undone : (tables : Tables) → before_all (made_since mark saved) tables ≡ tables
   unfolding before_all
-  none_undone entries = ap (λ (n : ℕ). before_all (take n saved) entries) none
+  none_undone tables = ap (λ (n : ℕ). before_all (take n saved) tables) none
 
   pub none_dropped : made_until mark saved ≡ saved
   none_dropped = ap (λ (n : ℕ). drop n saved) none
 
 -- once all that were made since a mark are undone, the last level is closed
 module _ (saved less : List Saved) (mark : ℕ) (marks all : List ℕ) (are : all ≡ mark ∷ marks) where
-  pub close_is : (old new : Entries)
+  pub close_is : (old new : Tables)
       → new ≡ before_all (made_since mark saved) old
       → less ≡ made_until mark saved
       → (levels_of saved all old).outer ≡ (levels_of less marks new).top ∷ (levels_of less marks new).outer

@@ -11,7 +11,7 @@ use Rattle.tk_token.specs.Refusals.{Fails}
 use Rattle.tk_token.proofs.Answering.{fails_then, fails_as, then_is}
 use Rattle.tk_token.specs.Kinds.{is_param}
 use Rattle.tk_store.specs.Bodies.{itself, hash_before, misfit, body_of}
-use Rattle.tk_store.specs.Fronts.{Front, front, front_of}
+use Rattle.tk_store.specs.Kept.{Kept, kept, first_kept}
 
 -- tokens stand before a body
 abbrev pub onto : List Tok → Answer (List Tok) → Answer (List Tok)
@@ -27,18 +27,18 @@ pub onto_more : (done : List Tok) (t : Tok) (answer : Answer (List Tok)) → ont
 onto_more done t (Ok more) = ap (λ (ts : List Tok). (let a : Answer (List Tok) = Ok ts in a)) (sym (append_assoc done (t ∷ []) more))
 onto_more done t (Err e) = refl
 
--- what follows a token of the front
-abbrev after_front : ℕ → Front → Answer (List Tok)
-after_front args f = body_of args f.rest >>= λ more. Ok (f.tok ∷ more)
+-- the body from a token that is kept on
+abbrev from_kept : ℕ → Kept → Answer (List Tok)
+from_kept args f = body_of args f.rest >>= λ more. Ok (f.tok ∷ more)
 
-bind_front : (m : Answer Tok) (ts : List Tok) (f : Front → Answer (List Tok)) → ((m >>= λ x. Ok (front x ts)) >>= f) ≡ (m >>= λ x. f (front x ts))
-bind_front (Ok x) ts f = refl
-bind_front (Err e) ts f = refl
+bind_kept : (m : Answer Tok) (ts : List Tok) (f : Kept → Answer (List Tok)) → ((m >>= λ x. Ok (kept x ts)) >>= f) ≡ (m >>= λ x. f (kept x ts))
+bind_kept (Ok x) ts f = refl
+bind_kept (Err e) ts f = refl
 
 -- a token with nothing behind it
 alone : (args : ℕ) (k : Kind) (t : Tok)
     → (itself k t >>= λ first. Ok (first ∷ []))
-    ≡ ((if is_param k then misfit t.at else (itself k t >>= λ first. Ok (front first []))) >>= after_front args)
+    ≡ ((if is_param k then misfit t.at else (itself k t >>= λ first. Ok (kept first []))) >>= from_kept args)
 unfolding body_of
 alone args Param t = refl
 alone args (Arg n) t = refl
@@ -53,12 +53,12 @@ alone args Space t = refl
 paired : (args : ℕ) (b : Bool) (m n : Answer Tok) (us ts : List Tok) →
     (if b then (m >>= λ first. body_of args us >>= λ more. Ok (first ∷ more))
     else (n >>= λ first. body_of args ts >>= λ more. Ok (first ∷ more)))
-    ≡ ((if b then (m >>= λ first. Ok (front first us)) else (n >>= λ first. Ok (front first ts))) >>= after_front args)
-paired args true m n us ts = sym (bind_front m us (after_front args))
-paired args false m n us ts = sym (bind_front n ts (after_front args))
+    ≡ ((if b then (m >>= λ first. Ok (kept first us)) else (n >>= λ first. Ok (kept first ts))) >>= from_kept args)
+paired args true m n us ts = sym (bind_kept m us (from_kept args))
+paired args false m n us ts = sym (bind_kept n ts (from_kept args))
 
--- a body is its front, and the body behind that
-body_is : (args : ℕ) (t : Tok) (ts : List Tok) → body_of args (t ∷ ts) ≡ (front_of args t ts >>= after_front args)
+-- a body is the token that is kept first, and the body behind that
+body_is : (args : ℕ) (t : Tok) (ts : List Tok) → body_of args (t ∷ ts) ≡ (first_kept args t ts >>= from_kept args)
 unfolding body_of
 body_is args t [] = alone args t.kind t
 body_is args t (u ∷ us) = paired args (is_param t.kind) (hash_before args u.kind t.at) (itself t.kind t) us (u ∷ us)
@@ -74,14 +74,14 @@ module _ (args : ℕ) (done rest : List Tok) (answer : Answer (List Tok)) (told 
 
   module _ (t : Tok) (ts : List Tok) (is : rest ≡ t ∷ ts) where
     -- the first stands for a token, and the rest is left
-    pub goes : (first : Tok) (behind new : List Tok) → front_of args t ts ≡ Ok (front first behind) → new ≡ done ++ first ∷ [] → answer ≡ onto new (body_of args behind)
+    pub goes : (first : Tok) (behind new : List Tok) → first_kept args t ts ≡ Ok (kept first behind) → new ≡ done ++ first ∷ [] → answer ≡ onto new (body_of args behind)
     goes first behind new known pushed =
         told ∙ ap (λ (ts : List Tok). onto done (body_of args ts)) is
-        ∙ ap (onto done) (body_is args t ts ∙ then_is (front_of args t ts) (after_front args) (front first behind) known)
+        ∙ ap (onto done) (body_is args t ts ∙ then_is (first_kept args t ts) (from_kept args) (kept first behind) known)
         ∙ onto_more done first (body_of args behind) ∙ ap (λ (fs : List Tok). onto fs (body_of args behind)) (sym pushed)
 
     -- it has a fault
-    pub fails : (e : Refusal) → Fails e (front_of args t ts) → Fails e answer
+    pub fails : (e : Refusal) → Fails e (first_kept args t ts) → Fails e answer
     fails e h =
         fails_as e answer _ (told ∙ ap (λ (ts : List Tok). onto done (body_of args ts)) is)
-        (fails_then e (body_of args (t ∷ ts)) _ (fails_as e _ _ (body_is args t ts) (fails_then e (front_of args t ts) (after_front args) h)))
+        (fails_then e (body_of args (t ∷ ts)) _ (fails_as e _ _ (body_is args t ts) (fails_then e (first_kept args t ts) (from_kept args) h)))

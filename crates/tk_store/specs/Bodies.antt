@@ -1,16 +1,12 @@
 -- The bodies of macros (Knuth, TeX: The Program, sections 477 and 479).
-use Rattle.std.specs.Prelude.{ℕ, ◌≤◌, nat_le, ◌&&◌, if◌then◌else◌, List, [], ◌∷◌, Option, Some, None, Ok, IfSome}
+use Rattle.std.specs.Prelude.{ℕ, ◌≤◌, nat_le, ◌&&◌, if◌then◌else◌, List, [], ◌∷◌, Option, Some, None, Ok}
 use Rattle.std.specs.Char.{is_ascii_digit, digit_value}
-use Rattle.std.specs.List.{All}
-use Rattle.std.specs.FinMap as map
 use Rattle.tk_token.specs.declared.Kind.{Kind}
 use Rattle.tk_token.specs.declared.Kind.TheVariants.{Char, Param, Arg}
 use Rattle.tk_token.specs.declared.Tok.{Tok}
 use Rattle.tk_token.specs.declared.Code.TheVariants.{MacroSyntax}
 use Rattle.tk_token.specs.Answers.{Answer, ◌>>=◌, fault}
 use Rattle.tk_token.specs.Kinds.{is_param}
-use Rattle.tk_store.specs.declared.Macro.{Macro}
-use Rattle.tk_store.specs.Levels.{Macros}
 
 -- ---- what is written
 
@@ -65,12 +61,3 @@ body_of args (t ∷ u ∷ ts) =
 abbrev pub IsArgOf : ℕ → Kind → Type 0
 IsArgOf args (Arg n) = (1 ≤ n) × (n ≤ args)
 IsArgOf args _ = Unit {0}
-
--- at most nine arguments, and no place in the body of one that there isn't
-pub record IsProperMacro (value : Macro) : Type 0 where
-  pub few : value.args ≤ 9
-  pub places : All (λ (t : Tok). IsArgOf value.args t.kind) value.body
-
--- each macro is proper
-abbrev pub AreProperMacros : Macros → Type 0
-AreProperMacros macros = (word : ℕ) → IfSome (map.get macros word) IsProperMacro

@@ -1,4 +1,5 @@
 pub mod Levels
 pub mod Bodies
-pub mod Fronts
+pub mod Kept
+pub mod Paths
 pub mod Undo

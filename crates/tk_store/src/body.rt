@@ -4,7 +4,7 @@ ghost use Rattle.std.specs.Prelude.{◌≡◌, ◌≤◌, length, IfOk, IfSome};
 ghost use Rattle.std.specs.List.{All};
 ghost use Rattle.tk_token.specs.Refusals.{Gives};
 ghost use Rattle.tk_store.specs.Bodies.{digit_of, hash_before, body_of, IsArgOf};
-ghost use Rattle.tk_store.specs.Fronts.{front, front_of};
+ghost use Rattle.tk_store.specs.Kept.{kept, first_kept};
 
 use std::alloc::{AllocError, Global};
 use std::marker::Model;
@@ -56,7 +56,7 @@ impl Body {
         let mut toks = Vec::with_capacity(alloc, written.len())?;
         let mut rest = written;
         while let Some((first, tail)) = rest.split_first() {
-            let (tok, behind) = front(args, *first, tail)?;
+            let (tok, behind) = first_kept(args, *first, tail)?;
             toks.push(tok)?;
             rest = behind;
         }
@@ -102,8 +102,8 @@ pub fn digit_of(kind: Kind) -> Option<u8>
 }
 
 /// The token that a body has for the first one that is written, and the tokens behind those that it stands for.
-fn front(args: u8, first: Tok, tail: &[Tok]) -> Result<(Tok, &[Tok]), Refusal>
-    ensures gives { Gives (λ found. front found.0 found.1.now) result (front_of args first tail.now) }
+fn first_kept(args: u8, first: Tok, tail: &[Tok]) -> Result<(Tok, &[Tok]), Refusal>
+    ensures gives { Gives (λ found. kept found.0 found.1.now) result (first_kept args first tail.now) }
     ensures places { IfOk result (λ found. IsArgOf args found.0.kind) }
     ensures shorter { IfOk result (λ found. length found.1.now ≤ length tail.now) }
 {

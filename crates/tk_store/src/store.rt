@@ -1,24 +1,21 @@
-//! Macros in levels.
+//! Macros and keys in levels.
 
-ghost use Rattle.std.specs.Prelude.{◌≡◌, ◌+◌, ◌∷◌, ◌<◌, ◌≤◌, length, reverse, IfOk, IfSome, OnOk, OnErr};
-ghost use Rattle.std.specs.List.{AllByRecursion};
+ghost use Rattle.std.specs.Prelude.{◌≡◌, ◌+◌, ◌∷◌, ◌<◌, ◌≤◌, length, reverse, IfOk, OnOk, OnErr};
 ghost use Rattle.std.specs.Option.{option_copied};
 ghost use Rattle.std.specs.FinMap as map;
-ghost use Rattle.tk_store.specs.Bodies.{IsProperMacro, AreProperMacros};
-ghost use Rattle.tk_store.specs.Levels.{new_levels, opened, SetsMacro};
-ghost use Rattle.tk_store.specs.Undo.{before_all, made_since, made_until, IsProperSaved};
+ghost use Rattle.tk_store.specs.Levels.{new_levels, opened, SetsMacro, SetsKey};
+ghost use Rattle.tk_store.specs.Undo.{before_all, made_since, made_until};
 
-use crate::Macro;
 use crate::steps::Steps;
 use crate::tables::{Saved, Tables};
+use crate::{Entry, Macro};
 use arrayvec::ArrayVec;
 use std::alloc::{AllocError, Global};
 use std::marker::{Brand, Model};
 use std::sync::ledger::{Blank, Ledger};
 
-/// The macros of all open levels, of which there are at most 128, and none at first. After `\def\a{x}{\def\a{y}` the word
-/// `\a` stands for `y`, and once the `}` is read for `x` again. Each macro is proper: it has at most nine arguments, and no
-/// place in its body of one that it hasn't.
+/// The macros and the keys of all open levels, of which there are at most 128, and none at first. After
+/// `\def\a{x}{\def\a{y}` the word `\a` stands for `y`, and once the `}` is read for `x` again.
 #[derive(Drop)]
 pub struct Store {
     /// What holds at the current level.
@@ -31,11 +28,10 @@ pub struct Store {
 
 impl Model for Store {
     ghost use Rattle.std.specs.Prelude.{reverse, length};
-    ghost use Rattle.std.specs.List.{AllByRecursion};
     ghost use Rattle.std.specs.Coded.{codes};
     ghost use Rattle.std.specs.FinMap as map;
     ghost use Rattle.tk_store.specs.Levels.{Levels};
-    ghost use Rattle.tk_store.specs.Undo.{levels_of, AreMarks, IsProperSaved};
+    ghost use Rattle.tk_store.specs.Undo.{levels_of, AreMarks};
 
     ghost Value = { Levels };
 
@@ -43,12 +39,11 @@ impl Model for Store {
 
     ghost view = { λ store. levels_of (reverse store.saved.items) (reverse store.marks.items) store.tables };
 
-    ghost invariant = { λ store. AreMarks (length (reverse store.saved.items)) (reverse store.marks.items)
-        × AllByRecursion IsProperSaved (reverse store.saved.items) };
+    ghost invariant = { λ store. AreMarks (length (reverse store.saved.items)) (reverse store.marks.items) };
 }
 
 impl Store {
-    /// No macros.
+    /// No macros and no keys.
     pub fn new(alloc: Global) -> Result<Store, AllocError>
         ensures { IfOk result (λ store. store ≡ new_levels) }
     {
@@ -61,21 +56,39 @@ impl Store {
 
     /// The macro of the word with that number, if it has one. This takes no memory.
     pub fn get_macro(&self, name: u32) -> Option<&Macro>
-        ensures value { option_copied result ≡ map.get self.now.top.macros name }
-        ensures found { IfSome result (λ found. IsProperMacro found.now) }
-        ensures proper { AreProperMacros self.now.top.macros }
+        ensures { option_copied result ≡ map.get self.now.top.macros name }
     {
         self.tables.get_macro(name)
     }
 
+    /// The entry of the key with that full path, as `/tikz/scale`, if it has one. This takes no memory.
+    pub fn get_key(&self, path: &str) -> Option<&Entry>
+        ensures { option_copied result ≡ map.get self.now.top.keys path.now }
+    {
+        self.tables.get_key(path)
+    }
+
     /// Gives the word with that number a macro, until the current level is closed. On want of memory all stays as it was.
     pub fn set_macro(&mut self, name: u32, value: Macro) -> Result<(), AllocError>
-        requires { IsProperMacro value }
         ensures ok { OnOk result (SetsMacro self.old self.new name value) }
         ensures err { OnErr result (self.new ≡ self.old) }
     {
         self.saved.reserve(1)?;
         let replaced = self.tables.set_macro(name, value)?;
+        if self.marks.is_empty() {
+            return Ok(());
+        }
+        self.saved.push(replaced)?;
+        Ok(())
+    }
+
+    /// Gives the key with that full path an entry, until the current level is closed. On want of memory all stays as it was.
+    pub fn set_key(&mut self, path: &str, entry: Entry) -> Result<(), AllocError>
+        ensures ok { OnOk result (SetsKey self.old self.new path.now entry) }
+        ensures err { OnErr result (self.new ≡ self.old) }
+    {
+        self.saved.reserve(1)?;
+        let replaced = self.tables.set_key(path, entry)?;
         if self.marks.is_empty() {
             return Ok(());
         }
@@ -133,11 +146,9 @@ impl Store {
 
 /// Undoes settings, the newest first, until no more than so many are left.
 fn undo<L: Ledger>(tables: &mut Tables, saved: &mut Vec<Saved>, mark: usize, steps: &mut Steps<L>)
-    requires mark { mark ≤ length (reverse saved.old.items) }
-    requires proper { AllByRecursion IsProperSaved (reverse saved.old.items) }
+    requires { mark ≤ length (reverse saved.old.items) }
     ensures tables { tables.new ≡ before_all (made_since mark (reverse saved.old.items)) tables.old }
     ensures saved { reverse saved.new.items ≡ made_until mark (reverse saved.old.items) }
-    ensures proper { AllByRecursion IsProperSaved (reverse saved.new.items) }
     ensures cost { steps.new + mark ≡ steps.old + length (reverse saved.old.items) }
 {
     while saved.len() > mark {

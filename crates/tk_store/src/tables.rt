@@ -1,68 +1,76 @@
-//! What the words of the current level stand for, and what a setting there replaced.
+//! What the words and the keys of the current level stand for, and what a setting there replaced.
 
-ghost use Rattle.std.specs.Prelude.{◌≡◌, ◌+◌, IfOk, IfSome, OnOk, OnErr};
+ghost use Rattle.std.specs.Prelude.{◌≡◌, ◌+◌, IfOk, OnOk, OnErr};
 ghost use Rattle.std.specs.Option.{option_copied};
 ghost use Rattle.std.specs.FinMap as map;
-ghost use Rattle.tk_store.specs.Bodies.{IsProperMacro, AreProperMacros};
-ghost use Rattle.tk_store.specs.Undo.{no_entries, macros_of, before, IsProperSaved};
+ghost use Rattle.indexmap.specs.IndexMap.{set_value_at};
+ghost use Rattle.tk_store.specs.Undo.{no_tables, macros_in, keys_in, before};
 
-use crate::Macro;
 use crate::steps::Steps;
+use crate::{Entry, Macro};
 use indexmap::IndexMap;
 use std::alloc::{AllocError, Global};
+use std::hash::Hash;
 use std::marker::Model;
+use std::mem;
 use std::sync::ledger::Ledger;
 
 /// What a setting replaced. With it the setting is undone, once all later ones are.
 #[derive(Drop)]
 pub(crate) enum Saved {
-    /// The entry at that place of the macros had that macro.
+    /// The macro at that place had that value.
     Macro(usize, Macro),
-    /// The last entry of the macros is new.
+    /// The last macro is new.
     NoMacro,
+    /// The key at that place had that entry.
+    Key(usize, Entry),
+    /// The last key is new.
+    NoKey,
 }
 
-/// The entries of the current level. An entry keeps its place for as long as it is there.
+/// The macros and the keys of the current level. Each keeps its place for as long as it is there.
 #[derive(Drop)]
 pub(crate) struct Tables {
     macros: IndexMap<u32, Macro>,
+    keys: IndexMap<String, Entry>,
 }
 
 impl Model for Tables {
-    ghost use Rattle.std.specs.List.{AllByRecursion};
-    ghost use Rattle.tk_store.specs.Bodies.{IsProperMacro};
-    ghost use Rattle.tk_store.specs.Undo.{Entries};
+    ghost use Rattle.tk_store.specs.Paths.{by_bytes};
+    ghost use Rattle.tk_store.specs.Undo as undo;
 
-    ghost Value = { Entries };
+    ghost Value = { undo.Tables };
 
-    ghost view = { λ tables. record { macros = tables.macros.entries } };
-
-    ghost invariant = { λ tables. AllByRecursion (λ entry. IsProperMacro entry.1) tables.macros.entries };
+    ghost view = { λ tables. record { macros = tables.macros.entries; keys = by_bytes tables.keys.entries } };
 }
 
 impl Tables {
     pub(crate) fn new(alloc: Global) -> Tables
-        ensures { result ≡ no_entries }
+        ensures { result ≡ no_tables }
     {
         Tables {
             macros: IndexMap::new(alloc),
+            keys: IndexMap::new(alloc),
         }
     }
 
     pub(crate) fn get_macro(&self, name: u32) -> Option<&Macro>
-        ensures value { option_copied result ≡ map.get (macros_of self.now) name }
-        ensures found { IfSome result (λ found. IsProperMacro found.now) }
-        ensures proper { AreProperMacros (macros_of self.now) }
+        ensures { option_copied result ≡ map.get (macros_in self.now) name }
     {
         self.macros.get(&name)
     }
 
+    pub(crate) fn get_key(&self, path: &str) -> Option<&Entry>
+        ensures { option_copied result ≡ map.get (keys_in self.now) path.now }
+    {
+        self.keys.get(path)
+    }
+
     /// Gives a word a macro. On want of memory all stays as it was.
     pub(crate) fn set_macro(&mut self, name: u32, value: Macro) -> Result<Saved, AllocError>
-        requires { IsProperMacro value }
-        ensures macros { OnOk result (macros_of self.new ≡ map.insert (macros_of self.old) name value) }
+        ensures macros { OnOk result (macros_in self.new ≡ map.insert (macros_in self.old) name value) }
+        ensures keys { OnOk result (keys_in self.new ≡ keys_in self.old) }
         ensures undo { IfOk result (λ saved. before saved self.new ≡ self.old) }
-        ensures proper { IfOk result IsProperSaved }
         ensures err { OnErr result (self.new ≡ self.old) }
     {
         let (place, old) = self.macros.insert_full(name, value)?;
@@ -72,22 +80,46 @@ impl Tables {
         })
     }
 
+    /// Gives a key an entry. On want of memory all stays as it was. A key that is there takes no memory.
+    pub(crate) fn set_key(&mut self, path: &str, entry: Entry) -> Result<Saved, AllocError>
+        ensures keys { OnOk result (keys_in self.new ≡ map.insert (keys_in self.old) path.now entry) }
+        ensures macros { OnOk result (macros_in self.new ≡ macros_in self.old) }
+        ensures undo { IfOk result (λ saved. before saved self.new ≡ self.old) }
+        ensures err { OnErr result (self.new ≡ self.old) }
+    {
+        if let Some(place) = self.keys.get_index_of(path) {
+            let old = mem::replace(&mut self.keys[place], entry);
+            return Ok(Saved::Key(place, old));
+        }
+        let path = String::from_str(*self.keys.allocator(), path)?;
+        self.keys.insert(path, entry)?;
+        Ok(Saved::NoKey)
+    }
+
     /// Undoes a setting, which is a step.
     pub(crate) fn put_back<L: Ledger>(&mut self, saved: Saved, steps: &mut Steps<L>)
-        requires { IsProperSaved saved }
-        ensures entries { self.new ≡ before saved self.old }
+        ensures tables { self.new ≡ before saved self.old }
         ensures cost { steps.new ≡ steps.old + 1 }
     {
         steps.tick();
         match saved {
-            Saved::Macro(place, old) => {
-                if let Some(value) = self.macros.get_index_mut(place) {
-                    *value = old;
-                }
-            }
+            Saved::Macro(place, old) => write(&mut self.macros, place, old),
             Saved::NoMacro => {
                 self.macros.pop();
             }
+            Saved::Key(place, old) => write(&mut self.keys, place, old),
+            Saved::NoKey => {
+                self.keys.pop();
+            }
         }
+    }
+}
+
+/// Gives the entry at a place another value.
+fn write<K: Eq + Hash, V: Drop>(table: &mut IndexMap<K, V>, place: usize, value: V)
+    ensures { table.new.entries ≡ set_value_at table.old.entries place value }
+{
+    if let Some(there) = table.get_index_mut(place) {
+        *there = value;
     }
 }

@@ -1,9 +1,6 @@
 //! What no clause says: that the calls succeed with ample memory, and some values worked out by hand.
 
-ghost use Rattle.std.specs.Prelude.{◌≤◌, IfOk};
-ghost use Rattle.tk_store.specs.Bodies.{IsProperMacro};
-
-use crate::{Body, Macro, Store};
+use crate::{Body, Entry, Macro, Need, Run, Store};
 use std::alloc::{AllocError, Global};
 use std::process::Abort;
 use std::test::Fail;
@@ -46,7 +43,7 @@ const MISFITS: [(u8, &str, u32); 14] = [
     (9, "#:#", 0),
 ];
 
-/// A call of a store. A macro is told by its number of arguments.
+/// A call of a store. A macro is told by its number of arguments, an entry by the number that it runs.
 #[derive(Clone, Copy)]
 enum Call {
     Open,
@@ -55,6 +52,9 @@ enum Call {
     /// The word has that macro.
     Has(u32, u8),
     HasNone(u32),
+    SetKey(&'static str, u16),
+    /// The key has that entry.
+    HasKey(&'static str, Option<u16>),
 }
 
 const LAST: u32 = 4_294_967_295;
@@ -108,6 +108,45 @@ const CALLS: [Call; 46] = [
     Call::HasNone(2),
     Call::Set(0, 5),
     Call::Has(0, 5),
+];
+
+const KEY_CALLS: [Call; 34] = [
+    Call::HasKey("", None),
+    Call::SetKey("", 9),
+    Call::SetKey("/tikz/scale", 1),
+    Call::HasKey("/tikz/scale", Some(1)),
+    Call::HasKey("/tikz/scal", None),
+    Call::HasKey("/tikz/scale/", None),
+    // Three settings on two paths.
+    Call::Open,
+    Call::HasKey("/tikz/scale", Some(1)),
+    Call::SetKey("/tikz/scale", 2),
+    Call::SetKey("/tikz/café", 3),
+    Call::SetKey("/tikz/scale", 4),
+    Call::HasKey("/tikz/scale", Some(4)),
+    Call::HasKey("/tikz/café", Some(3)),
+    Call::Close,
+    Call::HasKey("/tikz/scale", Some(1)),
+    Call::HasKey("/tikz/café", None),
+    Call::HasKey("", Some(9)),
+    // Keys and words at one level.
+    Call::Open,
+    Call::SetKey("/b", 5),
+    Call::Set(1, 5),
+    Call::SetKey("/c", 6),
+    Call::Open,
+    Call::SetKey("/b", 7),
+    Call::Set(1, 7),
+    Call::Set(2, 8),
+    Call::SetKey("/d", 8),
+    Call::HasKey("/b", Some(7)),
+    Call::Close,
+    Call::HasKey("/b", Some(5)),
+    Call::Has(1, 5),
+    Call::HasKey("/d", None),
+    Call::Close,
+    Call::HasKey("/b", None),
+    Call::HasKey("/tikz/scale", Some(1)),
 ];
 
 fn kind_of(character: char) -> Kind {
@@ -208,26 +247,41 @@ fn bodies_are_read(rt: HostRuntime) -> Result<(), Fail> {
     Ok(())
 }
 
-fn value(alloc: Global, args: u8) -> Result<Macro, Refusal>
-    requires { args ≤ 9 }
-    ensures { IfOk result IsProperMacro }
-{
+fn value(alloc: Global, args: u8) -> Result<Macro, Refusal> {
     Ok(Macro {
         args,
         body: Body::parse(alloc, args, &[])?,
     })
 }
 
+fn entry(number: u16) -> Entry {
+    Entry {
+        run: Some(Run::Native(number)),
+        value: None,
+        need: Need::Free,
+    }
+}
+
+/// The number that the key at a path runs.
+fn number_at(store: &Store, path: &str) -> Option<u16> {
+    match &store.get_key(path)?.run {
+        Some(Run::Native(number)) => Some(*number),
+        _ => None,
+    }
+}
+
 fn make(rt: &impl Abort, alloc: Global, store: &mut Store, call: Call) -> Result<(), Refusal> {
     match call {
         Call::Open if store.level() < 128 => store.open(),
         Call::Close if store.level() > 0 => store.close_uncounted(),
-        Call::Set(word, args) if args <= 9 => store.set_macro(word, value(alloc, args)?)?,
+        Call::Set(word, args) => store.set_macro(word, value(alloc, args)?)?,
         Call::Has(word, args) => match store.get_macro(word) {
             Some(found) => assert_eq!(rt; found.args, args, "{word}"),
             None => assert!(rt; false, "{word} has no macro"),
         },
         Call::HasNone(word) => assert!(rt; store.get_macro(word).is_none(), "{word}"),
+        Call::SetKey(path, number) => store.set_key(path, entry(number))?,
+        Call::HasKey(path, number) => assert_eq!(rt; number_at(store, path), number, "{path}"),
         _ => assert!(rt; false, "no such call"),
     }
     Ok(())
@@ -257,6 +311,30 @@ fn settings_end_with_their_levels(rt: HostRuntime) -> Result<(), Fail> {
         )?;
     }
     assert_eq!(rt; store.level(), 0);
+    Ok(())
+}
+
+#[test]
+fn settings_of_keys_end_with_their_levels(rt: HostRuntime) -> Result<(), Fail> {
+    let alloc = rt.alloc();
+    let mut store = Store::new(alloc)?;
+    for next in KEY_CALLS {
+        make(&rt, alloc, &mut store, next)?;
+    }
+    assert_eq!(rt; store.level(), 0);
+    for number in 0..20_000 {
+        let path = format!(in alloc; "/{number}")?;
+        store.set_key(path.as_str(), entry(number))?;
+    }
+    for _ in 0..200_000 {
+        make(&rt, alloc, &mut store, Call::Open)?;
+        make(&rt, alloc, &mut store, Call::SetKey("/0", 1))?;
+        make(&rt, alloc, &mut store, Call::Close)?;
+    }
+    for number in 0..20_000 {
+        let path = format!(in alloc; "/{number}")?;
+        assert_eq!(rt; number_at(&store, path.as_str()), Some(number));
+    }
     Ok(())
 }
 

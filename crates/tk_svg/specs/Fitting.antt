@@ -7,7 +7,7 @@ use Rattle.tk_item.specs.declared.Stroke.{Stroke}
 use Rattle.tk_item.specs.declared.Item.{Item}
 use Rattle.tk_item.specs.declared.Item.TheVariants.{Path, Label}
 use Rattle.tk_item.specs.declared.Drawing.{Drawing}
-use Rattle.tk_svg.specs.Characters.{tab, line_feed, carriage_return}
+use Rattle.tk_characters.specs.Characters.{tab, line_feed, carriage_return}
 use Rattle.tk_svg.specs.Scan.{is_xml_char}
 use Rattle.tk_svg.specs.Document.{IsFamily}
 

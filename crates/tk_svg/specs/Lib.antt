@@ -1,4 +1,3 @@
-pub mod Characters
 pub mod Document
 pub mod Fitting
 pub mod Paint

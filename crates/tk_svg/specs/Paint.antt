@@ -11,7 +11,7 @@ use Rattle.tk_item.specs.declared.Join.{Join}
 use Rattle.tk_item.specs.declared.Join.TheVariants as join
 use Rattle.tk_item.specs.declared.Fill.{Fill}
 use Rattle.tk_item.specs.declared.Stroke.{Stroke}
-use Rattle.tk_svg.specs.Characters.{hash}
+use Rattle.tk_characters.specs.Characters.{hash}
 use Rattle.tk_svg.specs.Scan.{Attribute, attribute, lone_number, scaled_of, numbers_of, word_meaning, ◌and_then◌}
 
 -- the names of these attributes

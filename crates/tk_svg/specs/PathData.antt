@@ -6,7 +6,7 @@ use Rattle.tk_num.specs.Number.{is_point, is_scaled}
 use Rattle.tk_item.specs.declared.Point.{Point}
 use Rattle.tk_item.specs.declared.Seg.{Seg}
 use Rattle.tk_item.specs.declared.Seg.TheVariants.{Move, Line, Curve, Close}
-use Rattle.tk_svg.specs.Characters.{plus, dash}
+use Rattle.tk_characters.specs.Characters.{plus, dash}
 use Rattle.tk_svg.specs.Scan.{after_blanks, after_separator, numbers_at, first_numbers_at, ◌and_then◌}
 
 -- ---- letters and their numbers (SVG 1.1, section 8.3.9, The grammar for path data)

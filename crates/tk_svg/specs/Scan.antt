@@ -4,7 +4,7 @@ use Rattle.std.specs.List.{list_all, list_any}
 use Rattle.std.specs.Char.{is_ascii_digit}
 use Rattle.std.specs.Str.Parse.{digits_value}
 use Rattle.tk_num.specs.Number.{is_point, is_scaled, fraction_of}
-use Rattle.tk_svg.specs.Characters.{tab, line_feed, carriage_return, space, quote, ampersand, plus, comma, dash, slash, colon, less, equals, greater}
+use Rattle.tk_characters.specs.Characters.{tab, line_feed, carriage_return, space, quote, ampersand, plus, comma, dash, slash, colon, less, equals, greater}
 
 -- the next step with what this one found, where it found something
 infixl 10 ◌and_then◌

@@ -12,7 +12,7 @@ use Rattle.tk_token.specs.Answers.{Answer, ◌>>=◌, fault}
 use Rattle.tk_token.specs.Refusals.{Fails, OnFault}
 use Rattle.tk_token.specs.Token.{Token, token_of, sign_of}
 use Rattle.tk_token.specs.Cutting.{Tokens}
-use Rattle.tk_token.specs.Faults.{after_mark, after_token, after_tokens, none_open, balanced, text_fault, Lexes, cut}
+use Rattle.tk_token.specs.Faults.{after_mark, open_after, open_after_all, none_open, balanced, text_fault, Lexes, cut}
 use Rattle.tk_token.proofs.Answering.{fails_then, fails_as, then_is}
 
 -- the last of a list is the first of it the other way round
@@ -35,29 +35,29 @@ module _ (names : List (List ℕ)) (toks : List Tok) (i : ℕ) (d : Tok) (before
       let one : suc i ≡ i + 1 = omega arith in
       ap (map (token_of names)) (drop-cons toks i d within ∙ ap (λ (n : ℕ). tok ∷ drop n toks) one)
 
-  told_here : after_tokens [] (map (token_of names) toks) ≡ after_tokens before (map (token_of names) (drop i toks)) → after_tokens [] (map (token_of names) toks) ≡ (after_token before (sign_of names tok.kind) tok.at >>= λ (after : List ℕ). after_tokens after (map (token_of names) (drop (i + 1) toks)))
-  told_here told = told ∙ ap (after_tokens before) from_here
+  told_here : open_after_all [] (map (token_of names) toks) ≡ open_after_all before (map (token_of names) (drop i toks)) → open_after_all [] (map (token_of names) toks) ≡ (open_after before (sign_of names tok.kind) tok.at >>= λ (after : List ℕ). open_after_all after (map (token_of names) (drop (i + 1) toks)))
+  told_here told = told ∙ ap (open_after_all before) from_here
 
   -- one more token is taken
-  pub one_more : (after : List ℕ) → after_tokens [] (map (token_of names) toks) ≡ after_tokens before (map (token_of names) (drop i toks)) → after_token before (sign_of names tok.kind) tok.at ≡ Ok after → after_tokens [] (map (token_of names) toks) ≡ after_tokens after (map (token_of names) (drop (i + 1) toks))
+  pub one_more : (after : List ℕ) → open_after_all [] (map (token_of names) toks) ≡ open_after_all before (map (token_of names) (drop i toks)) → open_after before (sign_of names tok.kind) tok.at ≡ Ok after → open_after_all [] (map (token_of names) toks) ≡ open_after_all after (map (token_of names) (drop (i + 1) toks))
   one_more after told goes =
-      told_here told ∙ then_is (after_token before (sign_of names tok.kind) tok.at) (λ (after : List ℕ). after_tokens after (map (token_of names) (drop (i + 1) toks))) after goes
+      told_here told ∙ then_is (open_after before (sign_of names tok.kind) tok.at) (λ (after : List ℕ). open_after_all after (map (token_of names) (drop (i + 1) toks))) after goes
 
   -- or is at fault
-  pub one_fails : (e : Refusal) → after_tokens [] (map (token_of names) toks) ≡ after_tokens before (map (token_of names) (drop i toks)) → Fails e (after_token before (sign_of names tok.kind) tok.at) → Fails e (balanced (map (token_of names) toks))
+  pub one_fails : (e : Refusal) → open_after_all [] (map (token_of names) toks) ≡ open_after_all before (map (token_of names) (drop i toks)) → Fails e (open_after before (sign_of names tok.kind) tok.at) → Fails e (balanced (map (token_of names) toks))
   one_fails e told h =
-      let here : Answer (List ℕ) = after_token before (sign_of names tok.kind) tok.at >>= λ (after : List ℕ). after_tokens after (map (token_of names) (drop (i + 1) toks)) in
+      let here : Answer (List ℕ) = open_after before (sign_of names tok.kind) tok.at >>= λ (after : List ℕ). open_after_all after (map (token_of names) (drop (i + 1) toks)) in
       let all : List Token = map (token_of names) toks in
       fails_as e (balanced all) (here >>= none_open all) (ap (λ (m : Answer (List ℕ)). m >>= none_open all) (told_here told))
-      (fails_then e here (none_open all) (fails_then e (after_token before (sign_of names tok.kind) tok.at) (λ (after : List ℕ). after_tokens after (map (token_of names) (drop (i + 1) toks))) h))
+      (fails_then e here (none_open all) (fails_then e (open_after before (sign_of names tok.kind) tok.at) (λ (after : List ℕ). open_after_all after (map (token_of names) (drop (i + 1) toks))) h))
 
 -- a brace that is left open
-pub left_open : (names : List (List ℕ)) (toks : List Tok) (i : ℕ) (open_at : List ℕ) (at : ℕ) → length toks ≤ i → after_tokens [] (map (token_of names) toks) ≡ after_tokens (reverse open_at) (map (token_of names) (drop i toks)) → Some at ≡ slice_get open_at (length open_at - 1) → balanced (map (token_of names) toks) ≡ fault Brace at
+pub left_open : (names : List (List ℕ)) (toks : List Tok) (i : ℕ) (open_at : List ℕ) (at : ℕ) → length toks ≤ i → open_after_all [] (map (token_of names) toks) ≡ open_after_all (reverse open_at) (map (token_of names) (drop i toks)) → Some at ≡ slice_get open_at (length open_at - 1) → balanced (map (token_of names) toks) ≡ fault Brace at
 left_open names toks i open_at at done told last =
     let outer = last_reversed open_at at last in
     let all : List Token = map (token_of names) toks in
     let none : map (token_of names) (drop i toks) ≡ [] = ap (map (token_of names)) (drop_all i toks done) in
-    let end : after_tokens [] all ≡ Ok (at ∷ outer.0) = told ∙ ap (after_tokens (reverse open_at)) none ∙ ap (λ (r : List ℕ). Ok r) outer.1 in
+    let end : open_after_all [] all ≡ Ok (at ∷ outer.0) = told ∙ ap (open_after_all (reverse open_at)) none ∙ ap (λ (r : List ℕ). Ok r) outer.1 in
     ap (λ (m : Answer (List ℕ)). m >>= none_open all) end
 
 -- ---- what a source lexes to

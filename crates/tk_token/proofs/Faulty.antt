@@ -12,7 +12,7 @@ use Rattle.tk_token.specs.declared.Fault.{Fault}
 use Rattle.tk_token.specs.Answers.{Answer, ◌>>=◌, fault}
 use Rattle.tk_token.specs.Token.{Sign, A_char, A_word, A_symbol, Opens, Closes, A_param, An_arg, A_space, Token}
 use Rattle.tk_token.specs.Cutting.{byte_count}
-use Rattle.tk_token.specs.Faults.{is_refused, first_place, fault_at, text_fault, after_token, after_tokens, none_open, balanced, Lexes, refused, cut}
+use Rattle.tk_token.specs.Faults.{is_refused, first_place, fault_at, text_fault, open_after, open_after_all, none_open, balanced, Lexes, refused, cut}
 use Rattle.tk_token.proofs.Refused.{text_without_fault}
 use Rattle.tk_token.proofs.Starts.{IsStart, front_is_text, starts, ends_mark}
 
@@ -31,7 +31,7 @@ module _ (P : ℕ → Type 0) where
   opened true open_at at h k = k
   opened false open_at at h k = (k, h)
 
-  after_one : (open_at : List ℕ) (sign : Sign) (at : ℕ) → AllByRecursion P open_at → P at → Stands (after_token open_at sign at)
+  after_one : (open_at : List ℕ) (sign : Sign) (at : ℕ) → AllByRecursion P open_at → P at → Stands (open_after open_at sign at)
   after_one open_at Opens at h k = opened (length open_at == 256) open_at at h k
   after_one [] Closes at h k = k
   after_one (inner ∷ outer) Closes at h k = h.1
@@ -46,9 +46,9 @@ module _ (P : ℕ → Type 0) where
   goes_on (Ok x) f h k = k x h
   goes_on (Err e) f h k = h
 
-  after_all : (open_at : List ℕ) (toks : List Token) → AllByRecursion P open_at → AllByRecursion (λ (t : Token). P t.at) toks → Stands (after_tokens open_at toks)
+  after_all : (open_at : List ℕ) (toks : List Token) → AllByRecursion P open_at → AllByRecursion (λ (t : Token). P t.at) toks → Stands (open_after_all open_at toks)
   after_all open_at [] h k = h
-  after_all open_at (t ∷ ts) h k = goes_on (after_token open_at t.sign t.at) (λ still. after_tokens still ts) (after_one open_at t.sign t.at h k.0) (λ still all. after_all still ts all k.1)
+  after_all open_at (t ∷ ts) h k = goes_on (open_after open_at t.sign t.at) (λ still. open_after_all still ts) (after_one open_at t.sign t.at h k.0) (λ still all. after_all still ts all k.1)
 
   at_the_end : (toks : List Token) (m : Answer (List ℕ)) → Stands m → IfErr (m >>= none_open toks) (λ f. P f.at)
   at_the_end toks (Ok []) h = tt
@@ -56,7 +56,7 @@ module _ (P : ℕ → Type 0) where
   at_the_end toks (Err e) h = h
 
   pub brace_stands : (toks : List Token) → AllByRecursion (λ (t : Token). P t.at) toks → IfErr (balanced toks) (λ f. P f.at)
-  brace_stands toks h = at_the_end toks (after_tokens [] toks) (after_all [] toks tt h)
+  brace_stands toks h = at_the_end toks (open_after_all [] toks) (after_all [] toks tt h)
 
 -- balanced tokens are those that were given
 same_tokens : (Q : List Token → Type 0) (toks : List Token) (m : Answer (List ℕ)) → Q toks → IfOk (m >>= none_open toks) Q
@@ -113,4 +113,4 @@ before_fault source answer (cut {toks = toks} e t) =
 pub before_tokens : (source : List ℕ) (answer : Answer (List Token)) → Lexes source answer → IfOk answer (λ toks. IsUtf8 source × AllByRecursion (λ (t : Token). IsStart source t.at) toks)
 before_tokens source answer (refused e) = tt
 before_tokens source answer (cut {toks = toks} e t) =
-    same_tokens (λ ts. IsUtf8 source × AllByRecursion (λ (t : Token). IsStart source t.at) ts) toks (after_tokens [] toks) (text_without_fault source e, starts source (text_without_fault source e) t (ends_mark (chars source)))
+    same_tokens (λ ts. IsUtf8 source × AllByRecursion (λ (t : Token). IsStart source t.at) ts) toks (open_after_all [] toks) (text_without_fault source e, starts source (text_without_fault source e) t (ends_mark (chars source)))

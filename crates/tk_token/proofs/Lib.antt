@@ -6,6 +6,7 @@ pub mod Faulty
 pub mod Fixpoint
 pub mod Fronts
 pub mod Lines
+pub mod LastToken
 pub mod Listed
 pub mod Loop
 pub mod Once
@@ -13,7 +14,8 @@ pub mod Outside
 pub mod Refused
 pub mod Runs
 pub mod Spaces
+pub mod Spelled
 pub mod Starts
-pub mod Texts
+pub mod TextCharacters
 pub mod Total
 pub mod Unique

@@ -11,7 +11,7 @@ use Rattle.std.specs.Str.{chars, IsUtf8}
 use Rattle.tk_token.specs.Cutting.{token_at, after_comment, Tokens, ends, comment}
 use Rattle.tk_token.specs.Pieces.{CutsOne}
 use Rattle.tk_token.specs.Words.{with_sign, with_words, words_of}
-use Rattle.tk_token.proofs.Texts.{byte_count_is}
+use Rattle.tk_token.proofs.TextCharacters.{byte_count_is}
 
 -- a word that is there keeps its meaning when words are added
 got_same : {A : Type 0} (xs ys : List A) (k : ℕ) → k < length xs → slice_get (xs ++ ys) k ≡ slice_get xs k

@@ -13,7 +13,7 @@ use Rattle.std.proofs.lemmas.Str.{encodes-append, IsUtf8-from_is_utf8, is_utf8-f
 use Rattle.tk_token.specs.declared.Code.TheVariants.{NotUtf8, BadChar}
 use Rattle.tk_token.specs.Cutting.{byte_count}
 use Rattle.tk_token.specs.Faults.{is_refused, first_place, fault_at, text_fault}
-use Rattle.tk_token.proofs.Texts.{byte_count_is}
+use Rattle.tk_token.proofs.TextCharacters.{byte_count_is}
 
 -- one more character that doesn't pass
 pub none_more : (p : ℕ → Bool) (front : List ℕ) (c : ℕ) → NonePass p front → p c ≡ false → NonePass p (front ++ c ∷ [])

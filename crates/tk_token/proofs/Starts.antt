@@ -13,7 +13,7 @@ use Rattle.tk_token.specs.declared.Kind.TheVariants.{Char, Word, Symbol, Open, C
 use Rattle.tk_token.specs.declared.Tok.{Tok}
 use Rattle.tk_token.specs.Places.{is_line_end}
 use Rattle.tk_token.specs.Token.{Sign, A_char, Opens, Closes, A_param, An_arg, Token, sign_of, token_of, IsNoArg}
-use Rattle.tk_token.specs.Cutting.{is_blank, is_indent, is_letter, after_comment, after_letters, gap_end, byte_count, Tokens, ends, comment, gap, word, control_space, symbol, other}
+use Rattle.tk_token.specs.Cutting.{is_blank, is_indent, is_letter, after_comment, after_word, gap_end, byte_count, Tokens, ends, comment, gap, word, control_space, symbol, other}
 use Rattle.tk_token.specs.Faults.{after_mark}
 use Rattle.tk_token.proofs.Ascii.{front_and, back_and}
 
@@ -87,7 +87,7 @@ module _ (text : List ℕ) (utf8 : IsUtf8 text) where
   starts ends e = tt
   starts (comment {cs = cs} t) e = starts t (ends_comment (chars text) cs (ends_tail (chars text) cs 37 e))
   starts (gap {c = c} {cs = cs} b t) e = (start_of c cs e, starts t (ends_gap (chars text) false cs (ends_tail (chars text) cs c e)))
-  starts (word {c = c} {cs = cs} l t) e = (start_of 92 (c ∷ cs) e, starts t (ends_gap (chars text) false (after_letters (c ∷ cs)) (ends_drop (chars text) (c ∷ cs) (prefix_len is_letter (c ∷ cs)) (ends_tail (chars text) (c ∷ cs) 92 e))))
+  starts (word {c = c} {cs = cs} l t) e = (start_of 92 (c ∷ cs) e, starts t (ends_gap (chars text) false (after_word (c ∷ cs)) (ends_drop (chars text) (c ∷ cs) (prefix_len is_letter (c ∷ cs)) (ends_tail (chars text) (c ∷ cs) 92 e))))
   starts (control_space {cs = cs} b t) e = (start_of 92 cs e, starts t (ends_gap (chars text) false cs (ends_tail (chars text) cs 92 e)))
   starts (symbol {c = c} {cs = cs} l b t) e = (start_of 92 (c ∷ cs) e, starts t (ends_tail (chars text) cs c (ends_tail (chars text) (c ∷ cs) 92 e)))
   starts (other {c = c} {cs = cs} b ne ne' t) e = (start_of c cs e, starts t (ends_tail (chars text) cs c e))

@@ -7,7 +7,7 @@ use Rattle.std.proofs.lemmas.List.{length-append}
 use Rattle.tk_token.specs.declared.Fault.{Fault}
 use Rattle.tk_token.specs.Answers.{Answer}
 use Rattle.tk_token.specs.Token.{Token}
-use Rattle.tk_token.specs.Cutting.{is_blank, is_letter, makes_space, after_gap, after_letters, after_comment, Tokens, ends, comment, gap, word, control_space, symbol, other}
+use Rattle.tk_token.specs.Cutting.{is_blank, is_letter, makes_space, after_gap, after_word, after_comment, Tokens, ends, comment, gap, word, control_space, symbol, other}
 use Rattle.tk_token.specs.Faults.{after_mark, text_fault, balanced, Lexes, refused, cut}
 use Rattle.tk_token.proofs.Starts.{Ends, ends_all, ends_drop, ends_gap, ends_comment}
 
@@ -31,11 +31,11 @@ module _ (n : ℕ) where
       by_letter (c ∷ more) b e go = by_test (is_letter c) refl
         where
           behind : List ℕ
-          behind = after_gap (after_letters (c ∷ more))
+          behind = after_gap (after_word (c ∷ more))
 
           by_test : (l : Bool) → is_letter c ≡ l → Some_tokens n (92 ∷ c ∷ more)
           by_test true f =
-              let t = go (after_gap (after_letters (c ∷ more))) (no_longer (c ∷ more) (after_gap (after_letters (c ∷ more))) (ends_gap (c ∷ more) false (after_letters (c ∷ more)) (ends_drop (c ∷ more) (c ∷ more) (prefix_len is_letter (c ∷ more)) (ends_all (c ∷ more))))) in
+              let t = go (after_gap (after_word (c ∷ more))) (no_longer (c ∷ more) (after_gap (after_word (c ∷ more))) (ends_gap (c ∷ more) false (after_word (c ∷ more)) (ends_drop (c ∷ more) (c ∷ more) (prefix_len is_letter (c ∷ more)) (ends_all (c ∷ more))))) in
               (_, word f t.1)
           by_test false f = let t = go more (omega arith) in (_, symbol f e t.1)
 

@@ -2,7 +2,7 @@
 use Rattle.std.specs.Prelude.{◌≡◌, ◌≢◌, ℕ, ◌-◌, Bool, true, false, ◌&&◌, ◌||◌, not, ◌==◌, nat_le, if◌then◌else◌, List, [], ◌∷◌, length, drop}
 use Rattle.std.specs.List.{prefix_len, take_while, after_first}
 use Rattle.std.specs.Str.{encode_utf8_all}
-use Rattle.tk_token.specs.Characters.{tab, line_feed, carriage_return, space, hash, percent, backslash, left_brace, right_brace}
+use Rattle.tk_characters.specs.Characters.{tab, line_feed, carriage_return, space, hash, percent, backslash, left_brace, right_brace}
 use Rattle.tk_token.specs.Token.{Sign, A_char, A_word, A_symbol, Opens, Closes, A_param, A_space, Token}
 use Rattle.tk_token.specs.Places.{is_line_end}
 
@@ -26,9 +26,9 @@ after_while passes cs = drop (prefix_len passes cs) cs
 abbrev pub letters_of : List ℕ → List ℕ
 letters_of cs = take_while is_letter cs
 
--- what stands after the letters in front
-abbrev pub after_letters : List ℕ → List ℕ
-after_letters cs = after_while is_letter cs
+-- what stands after the word whose letters are in front
+abbrev pub after_word : List ℕ → List ℕ
+after_word cs = after_while is_letter cs
 
 -- what stands after a comment, of whose characters those behind its `%` are given: it has the end of its line, and the spaces and tabs after that
 abbrev pub after_comment : List ℕ → List ℕ
@@ -85,7 +85,7 @@ pub data Tokens (n : ℕ) : List ℕ → List Token → Type 0 where
   -- `\` and letters, as many as there are; the gap after them gives no token
   word : {c : ℕ} {cs : List ℕ} {ts : List Token}
       → is_letter c ≡ true
-      → Tokens n (after_gap (after_letters (c ∷ cs))) ts
+      → Tokens n (after_gap (after_word (c ∷ cs))) ts
       → Tokens n (backslash ∷ c ∷ cs) (token_at n (backslash ∷ c ∷ cs) (A_word (letters_of (c ∷ cs))) ∷ ts)
   -- `\` before a space, a tab, a line end or the end; the gap after it gives no token
   control_space : {cs : List ℕ} {ts : List Token}

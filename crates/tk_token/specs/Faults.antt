@@ -33,16 +33,16 @@ after_mark [] = []
 after_mark (c ∷ cs) = if c == 0xFEFF then cs else c ∷ cs
 
 -- the places of the braces that are open after a token, the innermost first; at most 256 are open, and a `}` closes the innermost
-abbrev pub after_token : List ℕ → Sign → ℕ → Answer (List ℕ)
-after_token open_at Opens at = if length open_at == 256 then fault TooDeep at else Ok (at ∷ open_at)
-after_token [] Closes at = fault Brace at
-after_token (inner ∷ outer) Closes at = Ok outer
-after_token open_at _ at = Ok open_at
+abbrev pub open_after : List ℕ → Sign → ℕ → Answer (List ℕ)
+open_after open_at Opens at = if length open_at == 256 then fault TooDeep at else Ok (at ∷ open_at)
+open_after [] Closes at = fault Brace at
+open_after (inner ∷ outer) Closes at = Ok outer
+open_after open_at _ at = Ok open_at
 
 -- the places of the braces that are open after all tokens
-abbrev pub after_tokens : List ℕ → List Token → Answer (List ℕ)
-after_tokens open_at [] = Ok open_at
-after_tokens open_at (t ∷ ts) = after_token open_at t.sign t.at >>= λ still_open. after_tokens still_open ts
+abbrev pub open_after_all : List ℕ → List Token → Answer (List ℕ)
+open_after_all open_at [] = Ok open_at
+open_after_all open_at (t ∷ ts) = open_after open_at t.sign t.at >>= λ still_open. open_after_all still_open ts
 
 -- what is given where no brace is open, and else the fault of the innermost
 abbrev pub none_open : {A : Type 0} → A → List ℕ → Answer A
@@ -51,7 +51,7 @@ none_open value (inner ∷ outer) = fault Brace inner
 
 -- tokens whose braces balance, or else the first fault among these
 abbrev pub balanced : List Token → Answer (List Token)
-balanced toks = after_tokens [] toks >>= none_open toks
+balanced toks = open_after_all [] toks >>= none_open toks
 
 -- The tokens of a source, or its first fault: its fault as text, or else that among its braces.
 pub data Lexes (source : List ℕ) : Answer (List Token) → Type 0 where

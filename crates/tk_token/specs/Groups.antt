@@ -1,9 +1,11 @@
 -- Braces in lists of tokens, and what stands outside them.
-use Rattle.std.specs.Prelude.{ℕ, suc, ◌-◌, Bool, ◌&&◌, ◌==◌, if◌then◌else◌, List, [], ◌∷◌, drop, slice_get, Option, Some, None, option_map, option_and_then}
+use Rattle.std.specs.Prelude.{ℕ, suc, ◌-◌, Bool, ◌&&◌, ◌==◌, if◌then◌else◌, List, [], ◌∷◌, drop, slice_get, unwrap_or, Option, Some, None, option_map, option_and_then}
+use Rattle.std.specs.List.{list_all}
 use Rattle.tk_token.specs.declared.Kind.{Kind}
 use Rattle.tk_token.specs.declared.Kind.TheVariants.{Open, Close}
 use Rattle.tk_token.specs.declared.Tok.{Tok}
-use Rattle.tk_token.specs.Kinds.{is_char, is_close, begins}
+use Rattle.tk_token.specs.Kinds.{is_char, is_open, is_close, begins}
+use Rattle.tk_token.specs.Spaces.{is_space_token, after_spaces}
 
 -- the front of a list, and what is left of the list behind it
 pub record Cut : Type 0 where
@@ -53,3 +55,20 @@ group_of ts = past_first (first_outside (begins is_close) ts)
 -- the `}` that closes none of the tokens before it
 abbrev pub closer_of : List Tok → Option Tok
 closer_of ts = option_and_then (λ (c : Cut). slice_get c.rest 0) (first_outside (begins is_close) ts)
+
+-- ---- outer braces
+
+-- the contents of a group, where only Spaces stand behind it
+abbrev pub alone : Option Cut → Option (List Tok)
+alone None = None
+alone (Some c) = if list_all is_space_token c.rest then Some c.front else None
+
+-- the contents of tokens that are one group and Spaces behind it
+abbrev pub contents : List Tok → Option (List Tok)
+contents [] = None
+contents (t ∷ ts) = if is_open t.kind then alone (group_of ts) else None
+
+-- Tokens without one outer pair of braces: where they are one group, Spaces apart, what stands in it. So `{a,b}` is
+-- `a,b`, and `{a},{b}` stays.
+unfoldable pub unbraced : List Tok → List Tok
+unbraced ts = unwrap_or (contents (after_spaces ts)) ts

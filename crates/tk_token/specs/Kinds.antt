@@ -1,7 +1,7 @@
 -- Tests of tokens.
-use Rattle.std.specs.Prelude.{ℕ, Bool, true, false, ◌&&◌, ◌||◌, ◌==◌, List, [], ◌∷◌, codes}
+use Rattle.std.specs.Prelude.{ℕ, Bool, true, false, ◌&&◌, ◌||◌, ◌==◌, List, [], ◌∷◌, Option, Some, None, codes}
 use Rattle.tk_token.specs.declared.Kind.{Kind}
-use Rattle.tk_token.specs.declared.Kind.TheVariants.{Char, Open, Close, Param, Space}
+use Rattle.tk_token.specs.declared.Kind.TheVariants.{Char, Word, Open, Close, Param, Space}
 use Rattle.tk_token.specs.declared.Tok.{Tok}
 
 -- that character
@@ -28,6 +28,18 @@ is_close _ = false
 abbrev pub is_param : Kind → Bool
 is_param Param = true
 is_param _ = false
+
+-- ---- control words
+
+-- the number of a control word
+abbrev pub word_of : Kind → Option ℕ
+word_of (Word w) = Some w
+word_of _ = None
+
+-- the number of the one control word that tokens are
+abbrev pub one_word : List Tok → Option ℕ
+one_word (t ∷ []) = word_of t.kind
+one_word _ = None
 
 -- ---- what is in front
 

@@ -1,5 +1,4 @@
 pub mod Answers
-pub mod Characters
 pub mod Cutting
 pub mod Faults
 pub mod Groups
@@ -10,5 +9,6 @@ pub mod Recursion
 pub mod Refusals
 pub mod Sought
 pub mod Spaces
+pub mod Texts
 pub mod Token
 pub mod Words

@@ -1,7 +1,7 @@
 //! The faults of a source.
 
 ghost use Rattle.std.specs.Prelude.{◌≡◌, ◌<◌, ◌≤◌, ◌∷◌, ◌++◌, [], ℕ, List, length, map, reverse, chars, None, Some, MatchResult, IfSome, OnOk};
-ghost use Rattle.tk_token.specs.Faults.{is_refused, first_place, text_fault, after_token, balanced};
+ghost use Rattle.tk_token.specs.Faults.{is_refused, first_place, text_fault, open_after, balanced};
 ghost use Rattle.tk_token.specs.Refusals.{Gives};
 ghost use Rattle.tk_token.specs.Token.{token_of, sign_of};
 
@@ -54,7 +54,7 @@ pub(crate) fn balanced(alloc: Global, toks: &[Tok]) -> Result<(), Refusal>
 {
     let mut open_at = Vec::new(alloc);
     for tok in toks {
-        after_token(&mut open_at, *tok)?;
+        open_after(&mut open_at, *tok)?;
     }
     match open_at.last() {
         Some(at) => Err(Refusal::Fault(fault(Code::Brace, *at))),
@@ -63,8 +63,9 @@ pub(crate) fn balanced(alloc: Global, toks: &[Tok]) -> Result<(), Refusal>
 }
 
 /// Takes a token into the places of the braces that are open, the innermost of which is last.
-fn after_token(open_at: &mut Vec<u32>, tok: Tok) -> Result<(), Refusal>
-    ensures { (names : List (List ℕ)) → Gives (λ _. reverse open_at.new.items) result (after_token (reverse open_at.old.items) (sign_of names tok.kind) tok.at) }
+fn open_after(open_at: &mut Vec<u32>, tok: Tok) -> Result<(), Refusal>
+    ensures { (names : List (List ℕ)) → Gives (λ _. reverse open_at.new.items) result
+        (open_after (reverse open_at.old.items) (sign_of names tok.kind) tok.at) }
 {
     match tok.kind {
         Kind::Open => {

@@ -1,6 +1,7 @@
-//! What stands outside braces, and the Spaces round tokens.
+//! What stands outside braces, one outer pair of braces, and the Spaces round tokens.
 
-ghost use Rattle.std.specs.Prelude.{◌≡◌, ◌==◌, ◌&&◌, ◌∷◌, [], ◌+◌, ◌^◌, ◌<◌, ◌≤◌, length, option_map};
+ghost use Rattle.std.specs.Prelude.{◌≡◌, ◌==◌, ◌&&◌, ◌∷◌, [], ◌+◌, ◌^◌, ◌<◌, ◌≤◌, length, drop, option_map};
+ghost use Rattle.std.specs.List.{list_all};
 ghost use Rattle.tk_token.specs.Groups as groups;
 ghost use Rattle.tk_token.specs.Groups.{cut};
 ghost use Rattle.tk_token.specs.Kinds as kinds;
@@ -156,4 +157,55 @@ pub fn trimmed(list: &[Tok]) -> &[Tok]
     ensures { result.now ≡ spaces.trimmed list.now }
 {
     before_spaces(after_spaces(list))
+}
+
+/// The tokens without the first one.
+fn without_first(list: &[Tok]) -> &[Tok]
+    ensures { result.now ≡ drop 1 list.now }
+{
+    match list.split_first() {
+        Some((_, rest)) => rest,
+        None => list,
+    }
+}
+
+fn are_spaces(list: &[Tok]) -> bool
+    ensures { result ≡ list_all spaces.is_space_token list.now }
+{
+    list.iter().all(|tok| tok.kind.is_space())
+}
+
+/// The contents of a group whose `{` was read, where only Spaces stand behind its `}`.
+fn alone(list: &[Tok]) -> Option<&[Tok]>
+    ensures { option_map (λ inside. inside.now) result ≡ groups.alone (groups.group_of list.now) }
+{
+    let (inside, rest) = first_outside(list, Sought::Close)?;
+    if are_spaces(without_first(rest)) {
+        Some(inside)
+    } else {
+        None
+    }
+}
+
+/// The contents of tokens that are one group and Spaces behind it.
+fn contents(list: &[Tok]) -> Option<&[Tok]>
+    ensures { option_map (λ inside. inside.now) result ≡ groups.contents list.now }
+{
+    let (first, rest) = list.split_first()?;
+    if first.kind.is_open() {
+        alone(rest)
+    } else {
+        None
+    }
+}
+
+/// The tokens without one outer pair of braces: where they are one group, Spaces apart, it is what stands in it.
+#[tactic(auto, unfolding(crate::specs::Groups::unbraced))]
+pub fn unbraced(list: &[Tok]) -> &[Tok]
+    ensures { result.now ≡ groups.unbraced list.now }
+{
+    match contents(after_spaces(list)) {
+        Some(inside) => inside,
+        None => list,
+    }
 }

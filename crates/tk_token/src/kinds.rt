@@ -1,9 +1,9 @@
-//! Tests of single tokens.
+//! Tests of tokens, and the words that they are.
 
 ghost use Rattle.std.specs.Prelude.{◌≡◌};
 ghost use Rattle.tk_token.specs.Kinds as kinds;
 
-use crate::Kind;
+use crate::{Kind, Tok};
 
 impl Kind {
     /// Whether it is that character.
@@ -42,5 +42,27 @@ impl Kind {
         ensures { result ≡ kinds.is_param self }
     {
         matches!(self, Kind::Param)
+    }
+
+    /// The number of the control word that it is.
+    pub fn word(self) -> Option<u32>
+        ensures { result ≡ kinds.word_of self }
+    {
+        match self {
+            Kind::Word(number) => Some(number),
+            _ => None,
+        }
+    }
+}
+
+/// The number of the one control word that the tokens are.
+pub fn one_word(list: &[Tok]) -> Option<u32>
+    ensures { result ≡ kinds.one_word list.now }
+{
+    let (first, rest) = list.split_first()?;
+    if rest.is_empty() {
+        first.kind.word()
+    } else {
+        None
     }
 }

@@ -2,7 +2,7 @@
 
 ghost use Rattle.std.specs.Prelude.{◌∷◌, ◌≡◌, ◌≢◌, ℕ, ◌+◌, ◌<◌, ◌≤◌, List, [], length, map, chars, not, true, None, Some, Ok, Err, IfOk, IfErr, IfSome, OnOk, MatchOption, IsUtf8};
 ghost use Rattle.std.specs.List.{All, after_first};
-ghost use Rattle.tk_token.specs.Cutting.{is_indent, is_blank, is_letter, letters_of, after_letters, after_comment, after_gap, begins_line_feed, makes_space, single, Tokens};
+ghost use Rattle.tk_token.specs.Cutting.{is_indent, is_blank, is_letter, letters_of, after_word, after_comment, after_gap, begins_line_feed, makes_space, single, Tokens};
 ghost use Rattle.tk_token.specs.Faults.{after_mark, Lexes};
 ghost use Rattle.tk_token.specs.Pieces.{CutsOne};
 ghost use Rattle.tk_token.specs.Places.{is_line_end};
@@ -163,17 +163,17 @@ fn next_word<'s>(names: &mut Names, tail: &'s str) -> Result<(Kind, &'s str), Al
 /// The letters in front of a text, and what stands after them.
 fn split_letters(text: &str) -> (&str, &str)
     ensures letters { result.0.now ≡ letters_of (chars text.now) }
-    ensures after { chars result.1.now ≡ after_letters (chars text.now) }
+    ensures after { chars result.1.now ≡ after_word (chars text.now) }
     ensures text { IsUtf8 result.0.now × IsUtf8 result.1.now }
     ensures within { length result.1.now ≤ length text.now }
 {
-    let after = after_letters(text);
+    let after = after_word(text);
     text.split_at(text.len() - after.len())
 }
 
 /// What stands after the letters in front.
-fn after_letters(text: &str) -> &str
-    ensures value { chars result.now ≡ after_letters (chars text.now) }
+fn after_word(text: &str) -> &str
+    ensures value { chars result.now ≡ after_word (chars text.now) }
     ensures within { length result.now ≤ length text.now }
 {
     let mut rest = text;

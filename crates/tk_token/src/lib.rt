@@ -10,11 +10,13 @@ mod names;
 mod positions;
 #[cfg(test)]
 mod tests;
+mod texts;
 
 pub use groups::{
     Sought, after_spaces, before_spaces, begins_char, closes_nothing, depth_after, first_outside,
-    trimmed,
+    trimmed, unbraced,
 };
+pub use kinds::one_word;
 pub use laws::{
     a_search_parts_the_list, a_source_lexes_in_one_way, a_source_without_fault_is_text,
     all_characters_have_tokens, characters_have_one_list_of_tokens, each_source_lexes,
@@ -22,8 +24,9 @@ pub use laws::{
 };
 pub use lexer::{Lexed, lex};
 pub use names::Names;
-pub use positions::place;
+pub use positions::{end_of, place};
 use std::alloc::{AllocError, AllocFailed};
+pub use texts::{text_in, tokens_of};
 
 /// What a token is.
 #[derive(Clone, Copy, Debug, PartialEq, Eq)]
@@ -73,16 +76,58 @@ pub enum Code {
     Domain,
     /// A text is no expression: at the first token that doesn't fit.
     Expression,
+    /// A matrix has no inverse where one is asked for.
+    Singular,
+    /// A handler's value hasn't the form that the handler wants.
+    HandlerValue,
     /// A definition hasn't the form of one, or a name that is to be defined is no control word.
     MacroSyntax,
-    /// A macro's argument is missing.
+    /// An argument is missing, or there is one too many.
     MacroArg,
     /// More units would be paid than the budget has.
     Budget,
     /// A 129th level would open.
     Levels,
+    /// A 257th key list would run inside the others.
+    KeyDepth,
+    /// A key is unknown, or its name is no text.
+    UnknownKey,
+    /// A key's value is missing.
+    ValueRequired,
+    /// A key has a value that takes none.
+    ValueForbidden,
+    /// A choice has no such value.
+    UnknownChoice,
+    /// A token stands among settings that begins none.
+    NotASetting,
+    /// A text is no colour.
+    Colour,
+    /// A loop hasn't the form of one.
+    LoopSyntax,
+    /// The dots of a loop don't count to an end.
+    LoopItem,
+    /// A text is neither the name of an anchor nor an angle.
+    NoAnchor,
+    /// A character of a label isn't in the font.
+    NoGlyph,
+    /// A command stands in a label that no label can have.
+    TextCommand,
+    /// A label has mathematics.
+    Math,
     /// A coordinate hasn't the form of one.
     Coordinate,
+    /// No node has that name.
+    NoNode,
+    /// A token fits no operation of a path, or a list of options has no `]`.
+    PathSyntax,
+    /// A token begins no command.
+    UnknownCommand,
+    /// An `\end` or a `}` doesn't close what was opened last, or an opener is left open.
+    EndMismatch,
+    /// There are fewer pictures than the number that was chosen.
+    NoPicture,
+    /// The bytes of a font table haven't the form of one.
+    Font,
     /// A file has more than 16,777,216 bytes.
     TooLong,
     /// The source has a form that isn't built.

@@ -1,10 +1,11 @@
-//! Lines and columns of byte offsets.
+//! Lines and columns of byte offsets, and where tokens run out.
 
 ghost use Rattle.std.specs.Prelude.{◌≡◌, ◌<◌, ◌≤◌, ◌+◌, length, take, count_by};
 ghost use Rattle.std.specs.List.{after_last};
 ghost use Rattle.std.specs.Str.{chars, IsUtf8};
-ghost use Rattle.tk_token.specs.Places.{is_line_end, line_of, column_of};
+ghost use Rattle.tk_token.specs.Places.{is_line_end, line_of, column_of, end_of};
 
+use crate::Tok;
 use memchr::{memchr_iter, memrchr};
 
 /// The line and the column of a place in a source, both counted from 1. A line ends with an LF; a column counts
@@ -52,5 +53,15 @@ fn char_count(text: &[u8]) -> usize
     match str::from_utf8(text) {
         Ok(text) => text.chars().count(),
         Err(_) => unreachable!(),
+    }
+}
+
+/// Where tokens run out: at the last of them, or at that place where there is none.
+pub fn end_of(at: u32, list: &[Tok]) -> u32
+    ensures { result ≡ end_of at list.now }
+{
+    match list.split_last() {
+        Some((last, _)) => last.at,
+        None => at,
     }
 }

@@ -2,7 +2,8 @@
 
 use crate::{
     Code, Fault, Kind, Names, Refusal, Sought, Tok, after_spaces, begins_char, closes_nothing,
-    depth_after, first_outside, lex, place, trimmed,
+    depth_after, end_of, first_outside, lex, one_word, place, text_in, tokens_of, trimmed,
+    unbraced,
 };
 use std::alloc::{AllocError, Global};
 use std::process::Abort;
@@ -104,6 +105,19 @@ const SEARCHES: [(&str, Sought, Option<usize>); 16] = [
     ("1an2and", Sought::And, Some(4)),
     ("{and}an", Sought::And, None),
     ("", Sought::And, None),
+];
+
+/// Texts, and what they are without one outer pair of braces.
+const UNBRACED: [(&str, &str); 8] = [
+    ("{a,b}", "a,b"),
+    (" {a}  ", "a"),
+    ("{{a} }", "{a} "),
+    ("{}", ""),
+    // What isn't one group stays as it is.
+    ("{a},{b}", "{a},{b}"),
+    (" a ", " a "),
+    ("{a", "{a"),
+    ("", ""),
 ];
 
 fn shown(rt: &impl Abort, alloc: Global, source: &str) -> Result<String, Fail> {
@@ -218,5 +232,32 @@ fn searches_end_outside_braces(rt: HostRuntime) -> Result<(), Fail> {
     assert_eq!(rt; depth_after(0, Kind::Open), 1);
     assert_eq!(rt; depth_after(0, Kind::Close), 0);
     assert!(rt; closes_nothing(0, Kind::Close) && !closes_nothing(1, Kind::Close));
+    Ok(())
+}
+
+#[test]
+fn tokens_have_texts_and_texts_tokens(rt: HostRuntime) -> Result<(), Fail> {
+    for (text, inside) in &UNBRACED {
+        let braced = toks(rt.alloc(), text)?;
+        let wanted = toks(rt.alloc(), inside)?;
+        assert_eq!(rt; unbraced(braced.as_slice()), wanted.as_slice(), "{text}");
+    }
+    let spelled = tokens_of(rt.alloc(), 7, "é b")?;
+    assert_eq!(rt;
+        text_in(rt.alloc(), spelled.as_slice())?.as_deref(),
+        Some("é b")
+    );
+    assert_eq!(rt; trimmed(spelled.as_slice()).len(), 3);
+    assert_eq!(rt; end_of(5, spelled.as_slice()), 7);
+    assert_eq!(rt; end_of(5, &[]), 5);
+    let braced = toks(rt.alloc(), "a{}")?;
+    assert_eq!(rt; text_in(rt.alloc(), braced.as_slice())?, None);
+    let word = Tok {
+        kind: Kind::Word(3),
+        at: 0,
+    };
+    assert_eq!(rt; one_word(&[word]), Some(3));
+    assert_eq!(rt; one_word(&[word, word]), None);
+    assert_eq!(rt; one_word(spelled.as_slice()), None);
     Ok(())
 }

@@ -1,4 +1,5 @@
 use Rattle.std.proofs.Common.{rules, Ok, ap, sym, ◌∙◌, length}
+use Rattle.std.proofs.lemmas.Result.{err_from_is_err_and}
 use Rattle.tk_expr.specs.Evaluated.{evaluated}
 use Rattle.tk_keys.specs.State.{given_of}
 use Rattle.tk_token.specs.Answers.{Answer}
@@ -21,21 +22,24 @@ returns-in_err-document-clause-fault c =
     let lexed = c.in_ok-toks.field-0 in
     let is = ran_over lexed.names c.args.budget c.font_units.result c.in_ok-new.field-0 c.in_ok-input.input lexed.toks.items (length c.args.source.now) c.in_ok-new.ensures c.font_units.ensures (rw c.in_ok-from_vec.ensures at c.in_ok-input.ensures) in
     let h = fault_outcome c.args.budget c.args.source.now lexed.names lexed.toks.items c.in_ok-toks.ensures.tokens c.in_ok-toks.ensures.listed c.in_ok-toks.ensures.words c.in_ok-toks.ensures.once c.in_err-document.field-0.0 (document (given_of evaluated c.in_ok-new.field-0) c.in_ok-input.input) is c.in_err-document.ensures.gives in
-    search rules
+    let p = err_from_is_err_and c.from_residual-in_err-document.result c.from_residual-in_err-document.ensures.1 in
+    rw (p.1, p.2) h
 
 pub returns-in_err-document-clause-place : goal.returns-in_err-document-clause-place
 returns-in_err-document-clause-place c =
     let lexed = c.in_ok-toks.field-0 in
     let is = ran_over lexed.names c.args.budget c.font_units.result c.in_ok-new.field-0 c.in_ok-input.input lexed.toks.items (length c.args.source.now) c.in_ok-new.ensures c.font_units.ensures (rw c.in_ok-from_vec.ensures at c.in_ok-input.ensures) in
     let h = fault_place c.args.budget c.args.source.now lexed.names lexed.toks.items c.in_ok-toks.ensures.tokens c.in_ok-toks.ensures.listed c.in_ok-toks.ensures.words c.in_ok-toks.ensures.once c.in_err-document.field-0.0 (document (given_of evaluated c.in_ok-new.field-0) c.in_ok-input.input) is c.in_err-document.ensures.gives in
-    search rules
+    let p = err_from_is_err_and c.from_residual-in_err-document.result c.from_residual-in_err-document.ensures.1 in
+    rw (p.1, p.2) h
 
 pub returns-in_err-document-clause-text : goal.returns-in_err-document-clause-text
 returns-in_err-document-clause-text c =
     let lexed = c.in_ok-toks.field-0 in
     let is = ran_over lexed.names c.args.budget c.font_units.result c.in_ok-new.field-0 c.in_ok-input.input lexed.toks.items (length c.args.source.now) c.in_ok-new.ensures c.font_units.ensures (rw c.in_ok-from_vec.ensures at c.in_ok-input.ensures) in
     let h = fault_text c.args.budget c.args.source.now lexed.names lexed.toks.items c.in_ok-toks.ensures.tokens c.in_ok-toks.ensures.listed c.in_ok-toks.ensures.words c.in_ok-toks.ensures.once c.in_err-document.field-0.0 (document (given_of evaluated c.in_ok-new.field-0) c.in_ok-input.input) is c.in_err-document.ensures.gives in
-    search rules
+    let p = err_from_is_err_and c.from_residual-in_err-document.result c.from_residual-in_err-document.ensures.1 in
+    rw (p.1, p.2) h
 
 pub returns-clause-compiled : goal.returns-clause-compiled
 returns-clause-compiled c =

@@ -1,7 +1,5 @@
-use Rattle.std.proofs.Common.{◌≡◌, ◌≤◌, ◌+◌, [], ◌∷◌, length, ap, sym, subst, ◌∙◌, arith}
+use Rattle.std.proofs.Common.{◌≡◌, ◌≤◌, ◌+◌, [], ◌∷◌, length, ap, sym, ◌∙◌, arith}
 use Rattle.std.specs.Prelude.{reverse}
-use Rattle.std.specs.List.{AllByRecursion}
-use Rattle.tk_store.specs.Undo.{IsProperSaved}
 use Rattle.std.proofs.lemmas.List.{length-reverse, reverse-append}
 use Rattle.tk_store.proofs.Undoing.{one_undone, one_dropped, none_undone, none_dropped}
 use Rattle.tk_store.proofs.store.undo.Goals as goal
@@ -18,11 +16,10 @@ loop-saved-preserved-in-Some g c =
     record {
       enough = enough;
       back = one_undone (reverse c.loop-saved.saved.items) (reverse c.pop.new.self.items) c.in-Some.newest c.args.mark are enough
-          c.loop-saved.tables c.put_back.new.self c.put_back.ensures.entries
+          c.loop-saved.tables c.put_back.new.self c.put_back.ensures.tables
           ∙ c.loop-saved.invariant.back;
       left = one_dropped (reverse c.loop-saved.saved.items) (reverse c.pop.new.self.items) c.in-Some.newest c.args.mark are enough
           ∙ c.loop-saved.invariant.left;
-      proper = (subst (AllByRecursion IsProperSaved) are c.loop-saved.invariant.proper).1;
       cost = omega (arith, count, c.loop-saved.invariant.cost, c.put_back.ensures.cost);
     }
 

@@ -4,14 +4,14 @@ use Rattle.tk_token.specs.declared.Fault.{Fault}
 use Rattle.tk_token.proofs.Braces.{one_more, one_fails, left_open}
 use Rattle.tk_token.proofs.faults.balanced.Goals as goal
 
-pub returns-in_err-after_token : goal.returns-in_err-after_token
-returns-in_err-after_token c = λ names.
-    let e = one_fails names c.args.toks.now c.loop-tok.tok-index _ (reverse c.loop-tok.open_at.items) c.loop-tok-test.true c.in_err-after_token.field-0.0 (c.loop-tok.invariant.told names) (c.in_err-after_token.ensures names) in
+pub returns-in_err-open_after : goal.returns-in_err-open_after
+returns-in_err-open_after c = λ names.
+    let e = one_fails names c.args.toks.now c.loop-tok.tok-index _ (reverse c.loop-tok.open_at.items) c.loop-tok-test.true c.in_err-open_after.field-0.0 (c.loop-tok.invariant.told names) (c.in_err-open_after.ensures names) in
     search rules
 
 pub loop-tok-preserved : goal.loop-tok-preserved
 loop-tok-preserved c = record {
-  told = λ names. one_more names c.args.toks.now c.loop-tok.tok-index _ (reverse c.loop-tok.open_at.items) c.loop-tok-test.true (reverse c.after_token.new.open_at.items) (c.loop-tok.invariant.told names) (c.in_ok-after_token.ensures names);
+  told = λ names. one_more names c.args.toks.now c.loop-tok.tok-index _ (reverse c.loop-tok.open_at.items) c.loop-tok-test.true (reverse c.open_after.new.open_at.items) (c.loop-tok.invariant.told names) (c.in_ok-open_after.ensures names);
 }
 
 pub returns-in-Some : goal.returns-in-Some

@@ -1,6 +1,6 @@
 use Rattle.std.proofs.Common.{◌∙◌}
 use Rattle.std.proofs.lemmas.Str.{chars-nil}
-use Rattle.tk_token.proofs.Texts.{line_after, line_missing}
+use Rattle.tk_token.proofs.TextCharacters.{line_after, line_missing}
 use Rattle.tk_token.proofs.lexer.after_line.Goals as goal
 
 pub returns-in-Some-clause-value : goal.returns-in-Some-clause-value

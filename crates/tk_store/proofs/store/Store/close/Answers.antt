@@ -7,23 +7,22 @@ use Rattle.tk_store.proofs.store.Store.close.Given.{Over}
 use Rattle.tk_store.proofs.store.Store.close.Goals as goal
 use Rattle.tk_store.proofs.store.Store.close.Goals.{After-undo}
 
-pub undo-requires-clause-mark : goal.undo-requires-clause-mark
-undo-requires-clause-mark g c =
+pub undo-requires : goal.undo-requires
+undo-requires g c =
     let are : reverse c.self.inside.marks.items ≡ c.in-Some.mark ∷ reverse c.pop.new.self.items =
     ap reverse c.in-Some.ensures.items ∙ reverse-append c.pop.new.self.items (c.in-Some.mark ∷ []) in
-    (mark_within (reverse c.self.inside.saved.items) [] c.in-Some.mark _ _ are _ c.self.invariant.0).0
+    (mark_within (reverse c.self.inside.saved.items) [] c.in-Some.mark _ _ are _ c.self.invariant).0
 
 marks_are : (g : Over) (c : After-undo g) → reverse c.self.inside.marks.items ≡ c.in-Some.mark ∷ reverse c.pop.new.self.items
 marks_are g c = ap reverse c.in-Some.ensures.items ∙ reverse-append c.pop.new.self.items (c.in-Some.mark ∷ [])
 
 within : (g : Over) (c : After-undo g) → c.in-Some.mark ≤ length (reverse c.self.inside.saved.items)
-within g c = (mark_within (reverse c.self.inside.saved.items) [] c.in-Some.mark _ _ (marks_are g c) _ c.self.invariant.0).0
+within g c = (mark_within (reverse c.self.inside.saved.items) [] c.in-Some.mark _ _ (marks_are g c) _ c.self.invariant).0
 
 pub invariant_of-self : goal.invariant_of-self
-invariant_of-self g c = (
-  marks_close (reverse c.self.inside.saved.items) (reverse c.undo.new.saved.items) c.in-Some.mark _ _ (marks_are g c) c.undo.ensures.saved c.self.invariant.0,
-  c.undo.ensures.proper,
-)
+invariant_of-self g c =
+    marks_close (reverse c.self.inside.saved.items) (reverse c.undo.new.saved.items) c.in-Some.mark _ _ (marks_are g c)
+    c.undo.ensures.saved c.self.invariant
 
 pub returns-in-Some-clause-outer : goal.returns-in-Some-clause-outer
 returns-in-Some-clause-outer g c =

@@ -1,16 +1,11 @@
-use Rattle.std.proofs.Common.{List, ap, sym, subst}
+use Rattle.std.proofs.Common.{ap}
 use Rattle.std.specs.Prelude.{reverse}
-use Rattle.std.specs.List.{AllByRecursion}
-use Rattle.tk_store.specs.declared.tables.Saved.{Saved}
-use Rattle.tk_store.specs.Undo.{levels_of, outer_of, IsProperSaved}
+use Rattle.tk_store.specs.Undo.{levels_of, outer_of}
 use Rattle.tk_store.proofs.Undoing.{marks_none}
 use Rattle.tk_store.proofs.store.Store.new.Goals as goal
 
 pub invariant_of-result : goal.invariant_of-result
-invariant_of-result c = (
-  marks_none _ (reverse c.new-3.result.items) (ap reverse c.new-3.ensures),
-  subst (λ (l : List Saved). AllByRecursion IsProperSaved (reverse l)) (sym c.new-2.ensures.items) tt,
-)
+invariant_of-result c = marks_none _ (reverse c.new-3.result.items) (ap reverse c.new-3.ensures)
 
 pub returns : goal.returns
 unfolding outer_of

@@ -19,13 +19,11 @@ push-requires c =
     (omega arith, room)
 
 pub invariant_of-self : goal.invariant_of-self
-invariant_of-self c = (
-  marks_open (length (reverse c.self.inside.saved.items)) c.len.result (reverse c.self.inside.marks.items) (reverse c.push.new.self.items)
-      (count_is c)
-      (ap reverse c.push.ensures.items ∙ reverse-append c.self.inside.marks.items (c.len.result ∷ []))
-      c.self.invariant.0,
-  c.self.invariant.1,
-)
+invariant_of-self c =
+    marks_open (length (reverse c.self.inside.saved.items)) c.len.result (reverse c.self.inside.marks.items) (reverse c.push.new.self.items)
+    (count_is c)
+    (ap reverse c.push.ensures.items ∙ reverse-append c.self.inside.marks.items (c.len.result ∷ []))
+    c.self.invariant
 
 pub returns : goal.returns
 returns c =

@@ -1,11 +1,10 @@
-use Rattle.std.proofs.Common.{◌≡◌, List, [], ◌∷◌, length, ap, sym, subst, ◌∙◌, arith}
+use Rattle.std.proofs.Common.{◌≡◌, List, [], ◌∷◌, length, ap, subst, ◌∙◌, arith}
 use Rattle.std.specs.Prelude.{reverse}
-use Rattle.std.specs.List.{AllByRecursion}
 use Rattle.std.proofs.lemmas.List.{reverse-append, nil_from_length}
 use Rattle.tk_store.specs.declared.tables.Saved.{Saved}
 use Rattle.tk_store.specs.Levels.{Levels, SetsMacro}
-use Rattle.tk_store.specs.Undo.{levels_of, IsProperSaved}
-use Rattle.tk_store.proofs.Undoing.{set_at_level, set_at_bottom, marks_set}
+use Rattle.tk_store.specs.Undo.{levels_of}
+use Rattle.tk_store.proofs.Undoing.{changes_level, changes_bottom, marks_set, sets_macro}
 use Rattle.tk_store.proofs.store.Store.set_macro.Goals as goal
 use Rattle.tk_store.proofs.store.Store.set_macro.Goals.{In_ok-push}
 
@@ -14,9 +13,11 @@ returns-then-is_empty-clause-ok c =
     let none : length c.self.inside.marks.items ≡ 0 = grind (arith, c.is_empty.ensures, c.if-is_empty.true) in
     let new : Levels = levels_of (reverse c.reserve.new.self.items) (reverse c.self.inside.marks.items) c.set_macro.new.self in
     subst (λ (old : Levels). SetsMacro old new c.args.name c.args.value) c.self.view_is
-    (set_at_bottom (reverse c.self.inside.saved.items) (reverse c.reserve.new.self.items) (reverse c.self.inside.marks.items)
-    c.self.inside.tables c.set_macro.new.self c.args.name c.args.value
-    (ap reverse c.reserve.ensures.items) (ap reverse (nil_from_length _ none)) c.in_ok-replaced.ensures.macros)
+    (sets_macro (reverse c.self.inside.saved.items) (reverse c.self.inside.marks.items) c.self.inside.tables c.set_macro.new.self new
+    (changes_bottom (reverse c.self.inside.saved.items) (reverse c.reserve.new.self.items) (reverse c.self.inside.marks.items)
+    c.self.inside.tables c.set_macro.new.self
+    (ap reverse c.reserve.ensures.items) (ap reverse (nil_from_length _ none)))
+    c.args.name c.args.value c.in_ok-replaced.ensures.macros c.in_ok-replaced.ensures.keys)
 
 saved_are : (c : In_ok-push) → reverse c.push.new.self.items ≡ c.in_ok-replaced.replaced ∷ reverse c.self.inside.saved.items
 saved_are c =
@@ -25,16 +26,16 @@ saved_are c =
     ∙ ap (λ (l : List Saved). c.in_ok-replaced.replaced ∷ reverse l) c.reserve.ensures.items
 
 pub invariant_of-self-2 : goal.invariant_of-self-2
-invariant_of-self-2 c = (
-  marks_set (reverse c.self.inside.saved.items) (reverse c.push.new.self.items) (reverse c.self.inside.marks.items)
-      c.self.inside.tables c.set_macro.new.self c.in_ok-replaced.replaced (saved_are c) c.self.invariant.0,
-  subst (AllByRecursion IsProperSaved) (sym (saved_are c)) (c.in_ok-replaced.ensures.proper, c.self.invariant.1),
-)
+invariant_of-self-2 c =
+    marks_set (reverse c.self.inside.saved.items) (reverse c.push.new.self.items) (reverse c.self.inside.marks.items)
+    c.self.inside.tables c.set_macro.new.self c.in_ok-replaced.replaced (saved_are c) c.self.invariant
 
 pub returns-clause-ok : goal.returns-clause-ok
 returns-clause-ok c =
     let new : Levels = levels_of (reverse c.push.new.self.items) (reverse c.self.inside.marks.items) c.set_macro.new.self in
     subst (λ (old : Levels). SetsMacro old new c.args.name c.args.value) c.self.view_is
-    (set_at_level (reverse c.self.inside.saved.items) (reverse c.push.new.self.items) (reverse c.self.inside.marks.items)
-    c.self.inside.tables c.set_macro.new.self c.in_ok-replaced.replaced c.args.name c.args.value
-    (saved_are c) c.in_ok-replaced.ensures.undo c.in_ok-replaced.ensures.macros c.self.invariant.0)
+    (sets_macro (reverse c.self.inside.saved.items) (reverse c.self.inside.marks.items) c.self.inside.tables c.set_macro.new.self new
+    (changes_level (reverse c.self.inside.saved.items) (reverse c.push.new.self.items) (reverse c.self.inside.marks.items)
+    c.self.inside.tables c.set_macro.new.self c.in_ok-replaced.replaced
+    (saved_are c) c.in_ok-replaced.ensures.undo c.self.invariant)
+    c.args.name c.args.value c.in_ok-replaced.ensures.macros c.in_ok-replaced.ensures.keys)

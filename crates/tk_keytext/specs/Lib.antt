@@ -1,0 +1,5 @@
+pub mod Entries
+pub mod Handlers
+pub mod KeyParts
+pub mod Parts
+pub mod Paths
