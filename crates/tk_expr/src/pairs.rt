@@ -14,7 +14,7 @@ use crate::values::{Found, placed};
 use crate::{FontUnits, Value, ValuePair};
 use tk_item::Point;
 use tk_num::{Scaled, cos, mul, sin};
-use tk_token::{Code, Fault, Sought, Tok, first_outside, unbraced};
+use tk_token::{Code, Fault, Sought, Tok, before_char, first_outside, unbraced};
 
 /// The tokens without the first ones, so many.
 fn without(list: &[Tok], n: usize) -> &[Tok]
@@ -25,14 +25,6 @@ fn without(list: &[Tok], n: usize) -> &[Tok]
     } else {
         &[]
     }
-}
-
-/// The tokens before the first such character outside braces, and those behind it.
-fn before_char(list: &[Tok], wanted: char) -> Option<(&[Tok], &[Tok])>
-    ensures { option_map (λ found. cut found.0.now found.1.now) result ≡ groups.before_char wanted list.now }
-{
-    let (front, rest) = first_outside(list, Sought::Char(wanted))?;
-    Some((front, without(rest, 1)))
 }
 
 /// The value of a part, which may be a group; `at` is the place of an empty one.

@@ -1,23 +1,16 @@
 -- Key lists are the parts of their first pieces, and the parts behind those.
-use Rattle.std.proofs.Common.{◌≡◌, ℕ, ◌+◌, ◌<◌, true, List, [], ◌∷◌, ◌++◌, length, Option, Some, None, IfSome, refl, sym, ap, subst, ◌∙◌, arith}
+use Rattle.std.proofs.Common.{◌≡◌, ℕ, ◌+◌, ◌<◌, List, [], ◌∷◌, ◌++◌, length, Option, Some, None, IfSome, refl, sym, ap, subst, ◌∙◌, arith}
 use Rattle.std.specs.Prelude.{unwrap_or}
 use Rattle.tk_token.specs.declared.Tok.{Tok}
 use Rattle.tk_characters.specs.Characters.{comma}
-use Rattle.tk_token.specs.Groups.{Cut, cut, first_outside, before_char}
-use Rattle.tk_token.specs.Kinds.{is_char, begins}
+use Rattle.tk_token.specs.Groups.{Cut, cut, before_char}
 use Rattle.tk_token.specs.Recursion.{by_size, AsksSmaller}
 use Rattle.tk_token.specs.Spaces.{after_spaces}
 use Rattle.tk_token.proofs.Fixpoint.{independent, unbounded}
-use Rattle.tk_token.proofs.Outside.{Parts, parts, before_char_shorter}
+use Rattle.tk_token.proofs.Outside.{before_char_shorter}
 use Rattle.tk_keytext.specs.Parts.{KeyPart, part_of, first_piece, parts_step, parts_of}
 
 -- ---- what a search finds
-
--- a character that was sought and found is in front of what is left
-pub found_in_front : (c : ℕ) (ts front rest : List Tok) → first_outside (begins (is_char c)) ts ≡ Some (cut front rest) → rest ≡ [] → ⊥
-found_in_front c ts front rest found none =
-    let h : Parts (begins (is_char c)) ts (cut front rest) = subst (λ (o : Option Cut). IfSome o (Parts (begins (is_char c)) ts)) found (parts (begins (is_char c)) ts) in
-    let e : begins (is_char c) [] ≡ true = subst (λ (us : List Tok). begins (is_char c) us ≡ true) none h.1 in cc
 
 -- what is left behind it is shorter
 pub found_shorter : (c : ℕ) (ts front rest : List Tok) → before_char c ts ≡ Some (cut front rest) → length rest < length ts

@@ -10,7 +10,7 @@ ghost use Rattle.tk_keytext.specs.Parts as parts;
 ghost use Rattle.tk_keytext.specs.Parts.{parts_of};
 
 use std::marker::Model;
-use tk_token::{Sought, Tok, after_spaces, first_outside, trimmed, unbraced};
+use tk_token::{Tok, after_spaces, before_char, trimmed, unbraced};
 
 /// A part of a key list: the name of a key, and its value if it has one. The Spaces round both are left out, and then one
 /// outer pair of braces of the value.
@@ -109,14 +109,4 @@ fn part_by(at: u32, piece: &[Tok]) -> Part<'_>
             at,
         },
     }
-}
-
-/// The tokens before that character, at its first place outside braces, and those behind it.
-fn before_char(list: &[Tok], wanted: char) -> Option<(&[Tok], &[Tok])>
-    ensures { option_map (λ found. cut found.0.now found.1.now) result
-        ≡ groups.before_char wanted list.now }
-{
-    let (front, rest) = first_outside(list, Sought::Char(wanted))?;
-    let (_, behind) = rest.split_first()?;
-    Some((front, behind))
 }

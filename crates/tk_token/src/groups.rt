@@ -58,6 +58,15 @@ pub fn first_outside(list: &[Tok], sought: Sought) -> Option<(&[Tok], &[Tok])>
     None
 }
 
+/// The tokens before that character, at its first place outside braces, and those behind it: `a=b` is parted into `a` and
+/// `b` by `=`. There are none where `first_outside` has none.
+pub fn before_char(list: &[Tok], wanted: char) -> Option<(&[Tok], &[Tok])>
+    ensures { option_map (λ found. cut found.0.now found.1.now) result ≡ groups.before_char wanted list.now }
+{
+    let (front, rest) = first_outside(list, Sought::Char(wanted))?;
+    Some((front, without_first(rest)))
+}
+
 /// Whether what is sought is in front, and no brace is open.
 fn is_found(sought: Sought, depth: usize, list: &[Tok]) -> bool
     ensures { result ≡ (depth == 0 && begins_sought sought list.now) }

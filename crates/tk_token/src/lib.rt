@@ -13,8 +13,8 @@ mod tests;
 mod texts;
 
 pub use groups::{
-    Sought, after_spaces, before_spaces, begins_char, closes_nothing, depth_after, first_outside,
-    trimmed, unbraced,
+    Sought, after_spaces, before_char, before_spaces, begins_char, closes_nothing, depth_after,
+    first_outside, trimmed, unbraced,
 };
 pub use kinds::one_word;
 pub use laws::{
@@ -26,7 +26,7 @@ pub use lexer::{Lexed, lex};
 pub use names::Names;
 pub use positions::{end_of, place};
 use std::alloc::{AllocError, AllocFailed};
-pub use texts::{text_in, tokens_of};
+pub use texts::{text_in, text_into, tokens_of};
 
 /// What a token is.
 #[derive(Clone, Copy, Debug, PartialEq, Eq)]

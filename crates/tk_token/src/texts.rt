@@ -23,7 +23,15 @@ fn character_of(kind: Kind) -> Option<char>
 pub fn text_in(alloc: Global, list: &[Tok]) -> Result<Option<String>, AllocError>
     ensures { IfOk result (λ text. option_map string_bytes text ≡ texts.text_in list.now) }
 {
-    let mut text = String::with_capacity(alloc, list.len())?;
+    text_into(String::with_capacity(alloc, list.len())?, list)
+}
+
+/// The same in the memory of a string, whose own text is gone.
+pub fn text_into(memory: String, list: &[Tok]) -> Result<Option<String>, AllocError>
+    ensures { IfOk result (λ text. option_map string_bytes text ≡ texts.text_in list.now) }
+{
+    let mut text = memory;
+    text.clear();
     let mut rest = list;
     while let Some((first, tail)) = rest.split_first() {
         let Some(character) = character_of(first.kind) else {

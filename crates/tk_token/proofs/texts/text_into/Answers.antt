@@ -2,7 +2,7 @@ use Rattle.std.proofs.Common.{◌≡◌, [], string_bytes, sym, ap, ◌∙◌}
 use Rattle.std.proofs.lemmas.List.{nil_from_length}
 use Rattle.tk_token.specs.Texts.{characters_of}
 use Rattle.tk_token.proofs.Spelled.{behind, one_more, no_more, whole}
-use Rattle.tk_token.proofs.texts.text_in.Goals as goal
+use Rattle.tk_token.proofs.texts.text_into.Goals as goal
 
 pub returns-in_default-character_of : goal.returns-in_default-character_of
 returns-in_default-character_of c =
