@@ -1,12 +1,11 @@
 -- What definitions leave: no more tokens, units that don't fall, and tokens and faults at places of the list and of the bodies.
-use Rattle.std.specs.Prelude.{◌≡◌, ℕ, zero, suc, ◌+◌, ◌-◌, ◌<◌, ◌≤◌, nat_le, ◌&&◌, ◌==◌, Bool, true, false, if◌then◌else◌, List, [], ◌∷◌, length, Option, Some, None, Ok, Err, IfOk, IfSome}
-use Rattle.std.proofs.Common.{sym, subst, arith}
-use Rattle.tk_token.specs.declared.Code.{Code}
+use Rattle.std.specs.Prelude.{◌≡◌, ℕ, zero, suc, ◌+◌, ◌<◌, ◌≤◌, nat_le, ◌&&◌, ◌==◌, List, [], ◌∷◌, length, Option, Some, None, Ok, IfSome}
+use Rattle.std.proofs.Common.{subst, arith}
 use Rattle.tk_token.specs.declared.Code.TheVariants.{MacroSyntax}
 use Rattle.tk_token.specs.declared.Kind.{Kind}
 use Rattle.tk_token.specs.declared.Kind.TheVariants.{Char, Word, Symbol, Open, Close, Param, Arg, Space}
 use Rattle.tk_token.specs.declared.Tok.{Tok}
-use Rattle.tk_token.specs.Answers.{Answer, ◌>>=◌, fault, or_fault}
+use Rattle.tk_token.specs.Answers.{Answer, ◌>>=◌, or_fault}
 use Rattle.tk_characters.specs.Characters.{star, left_bracket, right_bracket}
 use Rattle.tk_token.specs.Groups.{Cut, group_of}
 use Rattle.tk_token.specs.Kinds.{word_of, is_char, is_open, is_close, is_param}
@@ -121,7 +120,7 @@ module _ (P : ℕ → Type 0) (n end : ℕ) where
   first_and : (m : Answer Tok) (more : Answer (List Tok)) → Stands P TokenAt m → Stands P (StandAt P) more → Stands P (StandAt P) (m >>= λ first. more >>= λ rest. Ok (first ∷ rest))
   first_and m more h k = then_at P TokenAt (StandAt P) m _ h (λ first p. then_at P (StandAt P) (StandAt P) more _ k (λ rest q. (p, q)))
 
-  body_of_at : (args : ℕ) (ts : List Tok) → StandAt P ts → Stands P (StandAt P) (body_of args ts)
+  pub body_of_at : (args : ℕ) (ts : List Tok) → StandAt P ts → Stands P (StandAt P) (body_of args ts)
   unfolding body_of
   body_of_at args [] h = tt
   body_of_at args (t ∷ []) h = then_at P TokenAt (StandAt P) (itself t.kind t) _ (itself_at t.kind t h.0) (λ first p. (p, tt))

@@ -1,7 +1,13 @@
+pub mod DeedPlaces
 pub mod Defining
+pub mod Entries
+pub mod Loops
+pub mod PartPlaces
+pub mod Pinned
+pub mod Ran
+pub mod Read
 pub mod Reading
-pub mod Running
-pub mod Setting
+pub mod Sets
 pub mod Spending
 pub mod Standing
 pub mod Words

@@ -1,11 +1,11 @@
 -- Where tokens stand that are read as they are written, and where the faults of reading stand.
-use Rattle.std.specs.Prelude.{◌≡◌, ℕ, ◌+◌, ◌-◌, ◌≤◌, length, drop, Bool, if◌then◌else◌, List, [], ◌∷◌, Option, Some, None, Ok}
+use Rattle.std.specs.Prelude.{◌≡◌, ℕ, ◌≤◌, length, Bool, List, [], ◌∷◌, Option, Ok}
 use Rattle.std.specs.List.{prefix_len}
 use Rattle.std.proofs.Common.{subst, arith, length-drop}
 use Rattle.tk_token.specs.declared.Code.{Code}
 use Rattle.tk_token.specs.declared.Kind.{Kind}
 use Rattle.tk_token.specs.declared.Tok.{Tok}
-use Rattle.tk_token.specs.Answers.{Answer, ◌>>=◌, fault, or_fault}
+use Rattle.tk_token.specs.Answers.{fault, or_fault}
 use Rattle.tk_token.specs.Kinds.{is_char, is_open, is_close}
 use Rattle.tk_token.specs.Spaces.{is_space_token, after_spaces}
 use Rattle.tk_expand.specs.Unread.{Unread, unread, past_spaces}

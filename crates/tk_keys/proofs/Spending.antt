@@ -3,7 +3,7 @@ use Rattle.std.specs.Prelude.{ℕ, ◌≤◌, List, [], ◌∷◌, Ok, Err, IfOk
 use Rattle.std.proofs.Common.{arith}
 use Rattle.tk_token.specs.declared.Code.TheVariants.{Budget}
 use Rattle.tk_token.specs.declared.Tok.{Tok}
-use Rattle.tk_token.specs.Answers.{Answer, ◌>>=◌, fault}
+use Rattle.tk_token.specs.Answers.{Answer, fault}
 use Rattle.tk_token.proofs.Answering.{then_holds}
 use Rattle.tk_token.proofs.Fixpoint.{kept}
 use Rattle.tk_store.specs.Levels.{Macros}

@@ -1,5 +1,5 @@
 -- Answers whose values hold a fact, and whose faults stand at certain places.
-use Rattle.std.specs.Prelude.{◌≡◌, ℕ, Bool, true, false, if◌then◌else◌, Option, Some, None, Ok, Err, IfOk, IfErr, IfSome}
+use Rattle.std.specs.Prelude.{ℕ, Bool, true, false, if◌then◌else◌, Option, Some, None, Ok, Err, IfOk, IfErr, IfSome}
 use Rattle.tk_token.specs.declared.Code.{Code}
 use Rattle.tk_token.specs.Answers.{Answer, ◌>>=◌, or_fault}
 use Rattle.tk_expand.proofs.Places.{Stands}

@@ -1,6 +1,6 @@
 -- What stays the same in a run.
 use Rattle.std.specs.Prelude.{ℕ, List, [], ◌∷◌, codes}
-use Rattle.tk_token.specs.Words.{with_word}
+use Rattle.tk_token.specs.Words.{with_word, word_number}
 use Rattle.tk_expr.specs.declared.FontUnits.{FontUnits}
 use Rattle.tk_expr.specs.Evaluates.{Evaluation}
 
@@ -25,3 +25,17 @@ made_words = codes "pgfkeysalso" ∷ codes "pgfkeyscurrentkey" ∷ codes "pgfkey
 -- the words of a run over a source with those words
 abbrev pub known_words : List (List ℕ) → List (List ℕ)
 known_words words = with_all words made_words
+
+-- ---- their numbers
+
+-- `\pgfkeysalso`
+abbrev pub also_word : Given → ℕ
+also_word given = word_number given.names (codes "pgfkeysalso")
+
+-- `\pgfkeyscurrentkey`, which stands for the full path of a key that nothing is known of
+abbrev pub current_key : Given → ℕ
+current_key given = word_number given.names (codes "pgfkeyscurrentkey")
+
+-- `\pgfkeyscurrentname`, which stands for the last part of that path
+abbrev pub current_name : Given → ℕ
+current_name given = word_number given.names (codes "pgfkeyscurrentname")

@@ -5,25 +5,28 @@ use Rattle.tk_expand.specs.Unread.{Unread}
 use Rattle.tk_expand.specs.Expand.{Stream, stream}
 use Rattle.tk_expr.specs.declared.FontUnits.{FontUnits}
 use Rattle.tk_expr.specs.Evaluates.{Evaluation}
-use Rattle.tk_keys.specs.Environment.{Env}
+use Rattle.tk_keys.specs.Environment.{Env, Situation}
 use Rattle.tk_keys.specs.Given.{Given, known_words}
-use Rattle.tk_keys.specs.Settings.{Set}
+use Rattle.tk_keys.specs.Settings.{Standing, Ending, Set, standing, set_behind}
 
--- what was given for a run, what words mean at each open level, and the units paid so far
+-- what was given for a run, what words and keys mean at each open level, how many key lists run, and the units paid so far
 pub record State : Type 0 where
   pub names : List (List ℕ)
   pub font : FontUnits
   pub budget : ℕ
   pub levels : Levels
+  pub lists : ℕ
   pub units : ℕ
 
 -- before a run over a source with those words
 abbrev pub first_state : List (List ℕ) → FontUnits → ℕ → State
-first_state words font budget = record { names = known_words words; font = font; budget = budget; levels = new_levels; units = 0 }
+first_state words font budget =
+    record { names = known_words words; font = font; budget = budget; levels = new_levels; lists = 0; units = 0 }
 
--- what words mean at the last level, and how many are open
+-- what words and keys mean at the last level, and how many levels and key lists there are
 abbrev pub env_of : State → Env
-env_of s = record { macros = s.levels.top.macros; levels = length s.levels.outer }
+env_of s =
+    record { macros = s.levels.top.macros; keys = s.levels.top.keys; levels = length s.levels.outer; lists = s.lists }
 
 -- what is given, with a way to evaluate
 abbrev pub given_of : Evaluation → State → Given
@@ -33,22 +36,35 @@ given_of ev s = record { names = s.names; evaluate = ev; font = s.font; budget =
 abbrev pub stream_of : State → Unread → Stream
 stream_of s list = stream s.units list
 
+-- the situation of a run
+abbrev pub situation_of : State → Situation
+situation_of s = record { env = env_of s; units = s.units }
+
+-- where a run stands that has that default path and reads that list
+abbrev pub standing_of : State → List ℕ → Unread → Standing
+standing_of s dir list = standing (situation_of s) dir list
+
+-- where it ends with that default path
+abbrev pub ending_of : State → List ℕ → Ending
+ending_of s dir = record { now = situation_of s; dir = dir }
+
 -- ---- what calls leave
 
 -- nothing but the units is another
 abbrev pub Pays : State → State → Type 0
 Pays old new = new ≡ record old { units = new.units }
 
--- what was given stays, and so do the levels further out
+-- what was given stays, and so do the levels further out and the count of running key lists
 pub record Keeps (old new : State) : Type 0 where
   pub names : new.names ≡ old.names
   pub font : new.font ≡ old.font
   pub budget : new.budget ≡ old.budget
   pub outer : new.levels.outer ≡ old.levels.outer
+  pub lists : new.lists ≡ old.lists
 
--- what words mean behind a setting, and what is left
+-- what is behind a setting
 abbrev pub behind_set : State → Unread → Set
-behind_set s list = record { env = env_of s; stream = stream_of s list }
+behind_set s list = set_behind (situation_of s) list
 
 -- the same where there was one
 abbrev pub set_of : Bool → State → Unread → Option Set

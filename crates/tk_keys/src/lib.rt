@@ -1,9 +1,17 @@
-//! What words mean along a run, in levels, and the settings that change it.
+//! What words and keys mean along a run, in levels, and the settings that change it.
 #![tactic(auto)]
 
+mod deeds;
+mod dir;
+mod keys;
+mod laws;
+mod runs;
+mod setting;
 mod settings;
 mod state;
 #[cfg(test)]
 mod tests;
 
+pub use dir::Dir;
+pub use laws::{a_run_is_its_step, a_run_is_never_stuck};
 pub use state::State;

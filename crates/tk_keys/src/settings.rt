@@ -1,67 +1,206 @@
-//! Settings: commands that only set something.
+//! Settings that run nothing.
 
-ghost use Rattle.std.specs.Prelude.{◌≡◌, Ok, false, OnOk};
+ghost use Rattle.std.specs.Prelude.{◌≡◌, ◌+◌, ◌-◌, ◌≤◌, ◌<◌, length, string_bytes, IfOk, OnOk, Ok, Some, option_map, option_copied, unwrap_or};
+ghost use Rattle.std.specs.FinMap as map;
+ghost use Rattle.tk_num.specs.Text.{pointed_text};
 ghost use Rattle.tk_token.specs.Refusals.{Gives};
-ghost use Rattle.tk_expr.specs.Evaluates.{Evaluation};
-ghost use Rattle.tk_keys.specs.Settings.{definition_by, definition_of, define, one_setting};
-ghost use Rattle.tk_keys.specs.State.{env_of, given_of, stream_of, set_of, behind_set, Keeps};
+ghost use Rattle.tk_expand.specs.Reading.{read};
+ghost use Rattle.tk_expr.specs.Evaluated.{evaluated};
+ghost use Rattle.tk_keytext.specs.Entries as entries;
+ghost use Rattle.tk_keys.specs.Keys as keys;
+ghost use Rattle.tk_keys.specs.Settings as settings;
+ghost use Rattle.tk_keys.specs.Settings.{whole_text};
+ghost use Rattle.tk_keys.specs.State.{given_of, env_of, situation_of, behind_set, Keeps, Pays};
+ghost use Rattle.tk_keys.specs.Views.{key_of, number_by, given_by, situation_by};
 
-use crate::State;
+use crate::deeds::refused;
+use crate::keys::path_from;
+use crate::{Dir, State};
+use std::alloc::{AllocError, Global};
 use tk_define::{Command, read_definition};
-use tk_expand::Input;
-use tk_token::{Kind, Refusal, Tok};
+use tk_expand::{Input, Units, expand_all};
+use tk_expr::{FontUnits, eval};
+use tk_keytext::no_entry;
+use tk_num::{Scaled, print, print_tex};
+use tk_store::{Body, Entry, Store};
+use tk_token::{Code, Refusal, Tok, one_word};
+
+/// An argument that is one control word.
+fn word_argument(at: u32, input: &mut Input) -> Result<u32, Refusal>
+    ensures gives { Gives (λ word. read word input.new) result
+        (settings.word_argument at input.old) }
+    ensures end { OnOk result (input.new.end ≡ input.old.end) }
+    ensures shorter { OnOk result (length input.new.rest ≤ length input.old.rest) }
+{
+    let text = input.argument(at)?;
+    match one_word(&text) {
+        Some(word) => Ok(word),
+        None => Err(refused(Code::MacroSyntax, at)),
+    }
+}
 
 impl State {
-    /// Runs the one setting, other than a group, that begins with a token which was taken, and takes its further tokens;
-    /// tells whether one begins there. Today a setting is the definition of a macro: `\def`, `\edef`, `\newcommand` or
-    /// `\renewcommand`. Its faults are those of `read_definition`.
-    #[tactic(auto, unfolding(crate::specs::Settings::one_setting))]
-    pub fn run_one(&mut self, first: Tok, input: &mut Input) -> Result<bool, Refusal>
-        ensures gives { (ev : Evaluation) → Gives (λ set. set_of set self.new input.new) result
-            (one_setting (given_of ev self.old) first (env_of self.old) (stream_of self.old input.old)) }
-        ensures state { result ≡ Ok false → self.new ≡ self.old }
-        ensures list { result ≡ Ok false → input.new ≡ input.old }
-        ensures kept { OnOk result (Keeps self.old self.new) }
-    {
-        match self.definition(first.kind) {
-            Some(kind) => {
-                self.define(kind, input)?;
-                Ok(true)
-            }
-            None => Ok(false),
-        }
-    }
-
     /// Makes a definition, whose command was taken.
-    fn define(&mut self, kind: Command, input: &mut Input) -> Result<(), Refusal>
-        ensures gives { (ev : Evaluation) → Gives (λ _. behind_set self.new input.new) result
-            (define (given_of ev self.old) kind (env_of self.old) (stream_of self.old input.old)) }
+    pub(crate) fn define(&mut self, kind: Command, input: &mut Input) -> Result<(), Refusal>
+        ensures gives { Gives (λ _. behind_set self.new input.new) result
+            (settings.define (given_of evaluated self.old) kind (situation_of self.old) input.old) }
         ensures kept { OnOk result (Keeps self.old self.new) }
+        ensures used { OnOk result (self.old.units ≤ self.new.units) }
+        ensures end { OnOk result (input.new.end ≡ input.old.end) }
+        ensures work { OnOk result ((self.new.budget - self.new.units) + length input.new.rest
+            ≤ (self.old.budget - self.old.units) + length input.old.rest) }
     {
         let definition = read_definition(self.alloc, kind, input, &self.store, &mut self.units)?;
         self.store.set_macro(definition.word, definition.value)?;
         Ok(())
     }
 
-    /// The kind of definition that a token begins.
-    fn definition(&self, kind: Kind) -> Option<Command>
-        ensures { result ≡ definition_of self.now.names kind }
+    /// An argument that is the name of a key, as its full path.
+    fn key_argument(&mut self, at: u32, dir: &Dir, input: &mut Input) -> Result<String, Refusal>
+        ensures gives { Gives (λ path. key_of (string_bytes path) self.new input.new) result
+            (settings.key_argument (given_of evaluated self.old) at dir.now (situation_of self.old) input.old) }
+        ensures pays { Pays self.old self.new }
+        ensures used { OnOk result (self.old.units ≤ self.new.units) }
+        ensures end { OnOk result (input.new.end ≡ input.old.end) }
+        ensures work { OnOk result ((self.new.budget - self.new.units) + length input.new.rest
+            ≤ (self.old.budget - self.old.units) + length input.old.rest) }
     {
-        match kind {
-            Kind::Word(n) => definition_by(self.names.word(n)?),
-            _ => None,
+        let text = input.argument(at)?;
+        let name = self.named(Code::UnknownKey, at, &text)?;
+        Ok(path_from(self.alloc, dir, name)?)
+    }
+
+    /// `\pgfkeyssetvalue`: a value is stored.
+    pub(crate) fn set_value(&mut self, at: u32, dir: &Dir, input: &mut Input) -> Result<(), Refusal>
+        ensures gives { Gives (λ _. behind_set self.new input.new) result
+            (settings.set_value (given_of evaluated self.old) at dir.now (situation_of self.old) input.old) }
+        ensures kept { OnOk result (Keeps self.old self.new) }
+        ensures used { OnOk result (self.old.units ≤ self.new.units) }
+        ensures end { OnOk result (input.new.end ≡ input.old.end) }
+        ensures work { OnOk result ((self.new.budget - self.new.units) + length input.new.rest
+            ≤ (self.old.budget - self.old.units) + length input.old.rest) }
+    {
+        let path = self.key_argument(at, dir, input)?;
+        let text = input.argument(at)?;
+        let entry = self.with_value(&path, Body::from_vec(text)?)?;
+        self.set_entry(&path, entry)?;
+        Ok(())
+    }
+
+    /// The entry at a path, with that value.
+    fn with_value(&self, path: &str, value: Body) -> Result<Entry, AllocError>
+        ensures { IfOk result (λ entry. entry
+            ≡ record (unwrap_or (map.get (env_of self.now).keys path.now) entries.no_entry) { value = Some value }) }
+    {
+        let old = match self.store.get_key(path) {
+            Some(old) => old.copy()?,
+            None => no_entry(),
+        };
+        Ok(Entry {
+            value: Some(value),
+            ..old
+        })
+    }
+
+    /// `\pgfkeysgetvalue`: a word stands for the value that is stored.
+    pub(crate) fn get_value(&mut self, at: u32, dir: &Dir, input: &mut Input) -> Result<(), Refusal>
+        ensures gives { Gives (λ _. behind_set self.new input.new) result
+            (settings.get_value (given_of evaluated self.old) at dir.now (situation_of self.old) input.old) }
+        ensures kept { OnOk result (Keeps self.old self.new) }
+        ensures used { OnOk result (self.old.units ≤ self.new.units) }
+        ensures end { OnOk result (input.new.end ≡ input.old.end) }
+        ensures work { OnOk result ((self.new.budget - self.new.units) + length input.new.rest
+            ≤ (self.old.budget - self.old.units) + length input.old.rest) }
+    {
+        let path = self.key_argument(at, dir, input)?;
+        let Some(value) = self.stored_at(&path)? else {
+            return Err(refused(Code::UnknownKey, at));
+        };
+        let word = word_argument(at, input)?;
+        self.set_text(word, value)?;
+        Ok(())
+    }
+
+    /// The value that is stored at a path.
+    fn stored_at(&self, path: &str) -> Result<Option<Body>, AllocError>
+        ensures { IfOk result (λ value. value ≡ settings.stored_at (env_of self.now) path.now) }
+    {
+        let Some(entry) = self.store.get_key(path) else {
+            return Ok(None);
+        };
+        match &entry.value {
+            Some(value) => Ok(Some(value.copy()?)),
+            None => Ok(None),
         }
+    }
+
+    /// The value of an expression, once it is expanded.
+    fn number(&mut self, at: u32, text: Vec<Tok>) -> Result<Scaled, Refusal>
+        ensures gives { Gives (λ number. number_by number self.new.units) result
+            (settings.number (given_of evaluated self.old) at text.items (situation_of self.old)) }
+        ensures pays { Pays self.old self.new }
+        ensures used { OnOk result (self.old.units ≤ self.new.units) }
+    {
+        number_of(
+            self.alloc,
+            at,
+            text,
+            self.font,
+            &self.store,
+            &mut self.units,
+        )
+    }
+
+    /// `\pgfmathsetmacro`: a word stands for the text of an expression's value, as TeX prints it.
+    pub(crate) fn set_number(&mut self, at: u32, input: &mut Input) -> Result<(), Refusal>
+        ensures gives { Gives (λ _. behind_set self.new input.new) result
+            (settings.set_number (given_of evaluated self.old) pointed_text at (situation_of self.old) input.old) }
+        ensures kept { OnOk result (Keeps self.old self.new) }
+        ensures used { OnOk result (self.old.units ≤ self.new.units) }
+        ensures end { OnOk result (input.new.end ≡ input.old.end) }
+        ensures work { OnOk result ((self.new.budget - self.new.units) + length input.new.rest
+            ≤ (self.old.budget - self.old.units) + length input.old.rest) }
+    {
+        let word = word_argument(at, input)?;
+        let text = input.argument(at)?;
+        let number = self.number(at, text)?;
+        self.set_written(at, word, &print_tex(number.sp()))?;
+        Ok(())
+    }
+
+    /// `\pgfmathtruncatemacro`: a word stands for the text of the whole part of an expression's value.
+    pub(crate) fn set_whole(&mut self, at: u32, input: &mut Input) -> Result<(), Refusal>
+        ensures gives { Gives (λ _. behind_set self.new input.new) result
+            (settings.set_number (given_of evaluated self.old) whole_text at (situation_of self.old) input.old) }
+        ensures kept { OnOk result (Keeps self.old self.new) }
+        ensures used { OnOk result (self.old.units ≤ self.new.units) }
+        ensures end { OnOk result (input.new.end ≡ input.old.end) }
+        ensures work { OnOk result ((self.new.budget - self.new.units) + length input.new.rest
+            ≤ (self.old.budget - self.old.units) + length input.old.rest) }
+    {
+        let word = word_argument(at, input)?;
+        let text = input.argument(at)?;
+        let number = self.number(at, text)?;
+        self.set_written(at, word, &print(number.sp() / 65_536 * 65_536))?;
+        Ok(())
     }
 }
 
-/// The kind of definition that a control word begins.
-fn definition_by(word: &str) -> Option<Command>
-    ensures { result ≡ definition_by word.now }
+/// The value of an expression, once it is expanded.
+fn number_of(
+    alloc: Global,
+    at: u32,
+    text: Vec<Tok>,
+    font: FontUnits,
+    store: &Store,
+    units: &mut Units,
+) -> Result<Scaled, Refusal>
+    ensures gives { Gives (λ number. number_by number units.new.used) result
+        (settings.number (given_by font units.old.budget) at text.items (situation_by store.now.top.macros units.old.used)) }
+    ensures budget { units.new.budget ≡ units.old.budget }
+    ensures used { OnOk result (units.old.used ≤ units.new.used) }
 {
-    match word {
-        "def" => Some(Command::Def),
-        "edef" => Some(Command::Edef),
-        "newcommand" | "renewcommand" => Some(Command::NewCommand),
-        _ => None,
-    }
+    let list = expand_all(alloc, text, store, units)?;
+    let found = eval(&list, font, at)?;
+    Ok(found.number)
 }

@@ -1,6 +1,6 @@
 //! The state of a run.
 
-ghost use Rattle.std.specs.Prelude.{◌≡◌, ℕ, ◌∷◌, ◌+◌, ◌<◌, ◌≤◌, length, IfOk, OnOk, MatchResult, Ok, Err};
+ghost use Rattle.std.specs.Prelude.{◌≡◌, ℕ, [], ◌∷◌, ◌+◌, ◌-◌, ◌<◌, ◌≤◌, length, IfNone, option_to_list, IfOk, OnOk, OnErr, MatchResult, Ok, Err};
 ghost use Rattle.tk_token.specs.Refusals.{Gives};
 ghost use Rattle.tk_store.specs.Levels.{opened};
 ghost use Rattle.tk_token.specs.Kinds.{is_char};
@@ -10,32 +10,52 @@ ghost use Rattle.tk_expand.specs.Unread.{unread};
 ghost use Rattle.tk_keys.specs.Environment.{level};
 ghost use Rattle.tk_keys.specs.Given.{known_words};
 ghost use Rattle.tk_keys.specs.State.{first_state, env_of, stream_of, Pays};
+ghost use Rattle.tk_keys.specs.Made.{AreMade};
+ghost use Rattle.tk_store.specs.Levels.{SetsMacro};
 
 use std::alloc::{AllocError, Global};
 use std::marker::Model;
 use std::sync::ledger::Ledger;
 use tk_expand::{Input, Units, expand_all};
 use tk_expr::FontUnits;
-use tk_store::{Steps, Store};
+use tk_store::{Macro, Steps, Store};
 use tk_token::{Code, Fault, Names, Refusal, Tok};
 
 /// How many levels can be open.
 const MOST_LEVELS: usize = 128;
 
-/// The state of a run: what was given for it, what words mean at each open level, and the units that were paid so far.
+/// The state of a run: what was given for it, what words and keys mean at each open level, and the units that were paid so far.
 #[derive(Drop)]
 pub struct State {
     pub(crate) alloc: Global,
     pub(crate) names: Names,
+    /// The numbers of words that a run makes itself.
+    pub(crate) made: MadeWords,
     pub(crate) font: FontUnits,
     pub(crate) store: Store,
+    /// How many key lists run.
+    pub(crate) lists: usize,
     pub(crate) units: Units,
+    /// Memory for the next name.
+    pub(crate) spare: String,
+}
+
+/// The numbers of the words that a run makes itself.
+#[derive(Clone, Copy)]
+pub(crate) struct MadeWords {
+    /// `pgfkeysalso`
+    pub(crate) also: u32,
+    /// `pgfkeyscurrentkey`
+    pub(crate) key: u32,
+    /// `pgfkeyscurrentname`
+    pub(crate) name: u32,
 }
 
 impl Model for State {
     ghost use Rattle.std.specs.Coded.{codes};
     ghost use Rattle.std.specs.FinMap as map;
     ghost use Rattle.tk_keys.specs.State.{State};
+    ghost use Rattle.tk_keys.specs.Made.{AreMade};
 
     ghost Value = { State };
 
@@ -46,8 +66,11 @@ impl Model for State {
       font = s.font;
       budget = s.units.budget;
       levels = s.store;
+      lists = s.lists;
       units = s.units.used;
     } };
+
+    ghost invariant = { λ s. AreMade s.names s.made };
 }
 
 impl State {
@@ -61,12 +84,17 @@ impl State {
         requires { length names ≤ 17000000 }
         ensures { IfOk result (λ state. state ≡ first_state names font budget) }
     {
+        let mut names = names;
+        let made = make_words(&mut names)?;
         Ok(State {
             alloc,
-            names: with_made_words(names)?,
+            names,
+            made,
             font,
             store: Store::new(alloc)?,
+            lists: 0,
             units: Units { used: 0, budget },
+            spare: String::new(alloc),
         })
     }
 
@@ -80,6 +108,22 @@ impl State {
         ensures { result.now ≡ self.now.names }
     {
         &self.names
+    }
+
+    /// What words and keys mean at each open level. This takes no memory.
+    pub fn store(&self) -> &Store
+        ensures { result.now ≡ self.now.levels }
+    {
+        &self.store
+    }
+
+    /// Gives the word with that number a macro, until the last level is closed. On want of memory all stays as it was.
+    pub fn set_macro(&mut self, name: u32, value: Macro) -> Result<(), AllocError>
+        ensures ok { OnOk result (SetsMacro self.old.levels self.new.levels name value) }
+        ensures kept { self.new ≡ record self.old { levels = self.new.levels } }
+        ensures err { OnErr result (self.new ≡ self.old) }
+    {
+        self.store.set_macro(name, value)
     }
 
     /// The units of the font, with which the state was made. This takes no memory.
@@ -101,6 +145,11 @@ impl State {
         ensures gives { Gives (λ tok. taken tok (stream_of self.new input.new)) result
             (next self.old.budget (env_of self.old).macros (stream_of self.old input.old)) }
         ensures pays { Pays self.old self.new }
+        ensures none { IfOk result (λ tok. IfNone tok (input.new.rest ≡ [])) }
+        ensures end { OnOk result (input.new.end ≡ input.old.end) }
+        ensures used { OnOk result (self.old.units ≤ self.new.units) }
+        ensures work { IfOk result (λ tok. (self.new.budget - self.new.units) + length input.new.rest + length (option_to_list tok)
+            ≤ (self.old.budget - self.old.units) + length input.old.rest) }
     {
         input.next(&self.store, &mut self.units)
     }
@@ -191,14 +240,15 @@ impl State {
     }
 }
 
-/// The words of a source, and those that a run makes itself.
-fn with_made_words(names: Names) -> Result<Names, AllocError>
-    requires { length names ≤ 17000000 }
-    ensures { IfOk result (λ all. all ≡ known_words names) }
+/// Adds the words that a run makes itself; gives their numbers.
+fn make_words(names: &mut Names) -> Result<MadeWords, AllocError>
+    requires { length names.old ≤ 17000000 }
+    ensures words { OnOk result (names.new ≡ known_words names.old) }
+    ensures made { IfOk result (λ made. AreMade names.new made) }
 {
-    let mut all = names;
-    all.add("pgfkeysalso")?;
-    all.add("pgfkeyscurrentkey")?;
-    all.add("pgfkeyscurrentname")?;
-    Ok(all)
+    Ok(MadeWords {
+        also: names.add("pgfkeysalso")?,
+        key: names.add("pgfkeyscurrentkey")?,
+        name: names.add("pgfkeyscurrentname")?,
+    })
 }

@@ -1,14 +1,14 @@
 //! What no clause says: that the calls succeed with ample memory, and some values worked out by hand.
 
-use crate::State;
+use crate::{Dir, State};
 use std::alloc::Global;
 use std::process::Abort;
 use std::test::Fail;
 use tk_expand::Input;
 use tk_expr::FontUnits;
 use tk_num::Scaled;
-use tk_store::Body;
-use tk_token::{Code, Fault, Kind, Lexed, Refusal, lex};
+use tk_store::{Body, Macro};
+use tk_token::{Code, Fault, Kind, Lexed, Refusal, Tok, lex};
 
 fn scaled(rt: &impl Abort, sp: i64) -> Scaled {
     match Scaled::new(sp) {
@@ -60,6 +60,47 @@ fn reads(rt: &impl Abort, state: &mut State, input: &mut Input) -> Result<(), Re
     Ok(())
 }
 
+/// Takes a group and gives its contents.
+fn contents(input: &mut Input) -> Result<Vec<Tok>, Refusal> {
+    input.expect_open(Code::Unbuilt)?;
+    match input.group()? {
+        Some(contents) => Ok(contents),
+        None => Err(Refusal::OutOfMemory),
+    }
+}
+
+/// Runs a key list, and settings, with default paths that they change.
+fn sets_keys(rt: &impl Abort, alloc: Global) -> Result<(), Refusal> {
+    let text =
+        r"{/a/.store in=\m,/b/.cd,c/.code={\pgfkeysalso{/d/.cd}},c,/a=5}{{\pgfkeysalso{x/.cd}}\pgfkeysalso{y/.code={\def\m{#1}},y=7}}\m";
+    let (mut state, mut input) = before(rt, alloc, text, 100)?;
+    let list = contents(&mut input)?;
+    let last = state.run_list(Dir::root(alloc), &list, 0)?;
+    assert_eq!(rt; last.as_str(), "/d");
+    assert!(rt; state.store().get_key("/b/c").is_some());
+    let list = contents(&mut input)?;
+    let last = state.run_settings(Dir::new(alloc, "/p")?, &list, 0)?;
+    assert_eq!(rt; last.as_str(), "/p");
+    assert!(rt; state.store().get_key("/p/y").is_some());
+    let first = state.next(&mut input)?;
+    assert_eq!(rt; first.map(|tok| tok.kind), Some(Kind::Char('7')));
+    sets_macro(rt, alloc, &mut state)
+}
+
+/// A macro lasts to the end of its level.
+fn sets_macro(rt: &impl Abort, alloc: Global, state: &mut State) -> Result<(), Refusal> {
+    state.open(7)?;
+    let value = Macro {
+        args: 0,
+        body: Body::new(alloc, &[])?,
+    };
+    state.set_macro(99, value)?;
+    assert!(rt; state.store().get_macro(99).is_some());
+    state.close_uncounted();
+    assert!(rt; state.store().get_macro(99).is_none());
+    Ok(())
+}
+
 /// Opens as many levels as there can be, and one more.
 fn opens(rt: &impl Abort, state: &mut State) -> Result<(), Refusal> {
     state.open(7)?;
@@ -94,7 +135,8 @@ fn run(rt: &impl Abort, alloc: Global) -> Result<(), Refusal> {
     assert_eq!(rt; state.names().word(0), Some("def"));
     assert_eq!(rt; state.font_units().ex.sp(), 281_805);
     expands(rt, alloc, &mut state)?;
-    opens(rt, &mut state)
+    opens(rt, &mut state)?;
+    sets_keys(rt, alloc)
 }
 
 #[test]

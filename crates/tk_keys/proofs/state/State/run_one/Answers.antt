@@ -1,13 +1,15 @@
-use Rattle.std.proofs.Common.{rules}
-use Rattle.tk_keys.specs.State.{env_of, given_of, stream_of, behind_set}
-use Rattle.tk_keys.proofs.Running.{setting_made, setting_fails}
+use Rattle.std.proofs.lemmas.Result.{err_from_is_err_and}
+use Rattle.tk_keys.proofs.Loops.{none_begins, one_set, one_fails}
 use Rattle.tk_keys.proofs.state.State.run_one.Goals as goal
 
-pub returns-in_err-define-in-Some-clause-gives : goal.returns-in_err-define-in-Some-clause-gives
-returns-in_err-define-in-Some-clause-gives c ev =
-    let e = setting_fails (given_of ev c.args.self.now) c.args.first c.in-Some.kind (env_of c.args.self.now) (stream_of c.args.self.now c.args.input.now) c.in-Some.ensures c.in_err-define-in-Some.field-0.0 (c.in_err-define-in-Some.ensures.gives ev) in
-    search rules
+pub returns-in_default-clause-gives : goal.returns-in_default-clause-gives
+returns-in_default-clause-gives c ev is = none_begins ev is c.args.self.now c.args.first c.args.input.now (rw c.in_default.is at c.setting_of.ensures)
 
-pub returns-in_ok-define-in-Some-clause-gives : goal.returns-in_ok-define-in-Some-clause-gives
-returns-in_ok-define-in-Some-clause-gives c ev =
-    setting_made (given_of ev c.args.self.now) c.args.first c.in-Some.kind (env_of c.args.self.now) (stream_of c.args.self.now c.args.input.now) c.in-Some.ensures (behind_set c.define.new.self c.define.new.input) (c.in_ok-define-in-Some.ensures.gives ev)
+pub returns-in_err-set-clause-gives : goal.returns-in_err-set-clause-gives
+returns-in_err-set-clause-gives c ev is =
+    let p = err_from_is_err_and c.from_residual.result c.from_residual.ensures.1 in
+    rw (p.1, p.2) (one_fails ev is c.args.self.now c.args.first c.args.input.now c.in-Some.setting c.in-Some.ensures c.in_err-set.field-0.0 (rw c.root-dir.ensures at c.in_err-set.ensures.gives))
+
+pub returns-clause-gives : goal.returns-clause-gives
+returns-clause-gives c ev is =
+    one_set ev is c.args.self.now c.args.first c.args.input.now c.in-Some.setting c.in-Some.ensures c.set.new.self c.set.new.dir c.set.new.input (rw c.root-dir.ensures at c.in_ok-set.ensures.gives)

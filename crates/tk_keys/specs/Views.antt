@@ -1,0 +1,64 @@
+-- Private: only private contracts use this. What the code holds, as the definitions see it.
+use Rattle.std.specs.Prelude.{ℕ, ℤ, List, [], Option, Ok, option_map, string_bytes}
+use Rattle.tk_token.specs.Answers.{Answer, ◌>>=◌}
+use Rattle.tk_token.specs.Texts.{text_in}
+use Rattle.tk_store.specs.declared.Run.{Run}
+use Rattle.tk_store.specs.Levels.{Macros}
+use Rattle.tk_expand.specs.Expand.{stream, full}
+use Rattle.tk_expr.specs.declared.FontUnits.{FontUnits}
+use Rattle.tk_expr.specs.Evaluated.{evaluated}
+use Rattle.tk_token.specs.declared.Tok.{Tok}
+use Rattle.tk_expand.specs.Unread.{Unread, unread}
+use Rattle.tk_keys.specs.declared.deeds.Deed as code
+use Rattle.tk_keys.specs.declared.keys.Runner.{Runner}
+use Rattle.std.specs.FinMap as map
+use Rattle.tk_keys.specs.Environment.{Situation}
+use Rattle.tk_keys.specs.Given.{Given}
+use Rattle.tk_keys.specs.Keys.{Deed, Effect, Named, PaidText}
+use Rattle.tk_keys.specs.Settings.{KeyRead, Number}
+use Rattle.tk_keys.specs.State.{State, situation_of}
+
+-- what a key leaves
+abbrev pub deed_of : code.Deed → State → Deed
+deed_of deed s = record { now = situation_of s; text = deed.text }
+
+-- the same where something was done
+abbrev pub used_of : Option code.Deed → State → Option Deed
+used_of used s = option_map (λ deed. deed_of deed s) used
+
+-- what a part leaves
+abbrev pub effect_of : code.Deed → State → List ℕ → Effect
+effect_of deed s dir = record { deed = deed_of deed s; dir = dir }
+
+-- a name that was read
+abbrev pub name_of : List ℕ → State → Named
+name_of name s = record { name = name; now = situation_of s }
+
+-- the name of a key that was read
+abbrev pub key_of : List ℕ → State → Unread → KeyRead
+key_of path s list = record { path = path; now = situation_of s; list = list }
+
+-- the text of a list, once it is expanded, and the units behind it
+abbrev pub expanded_text : ℕ → Macros → ℕ → ℕ → List Tok → Answer (Option (List ℕ) × ℕ)
+expanded_text budget macros units at list =
+    full budget macros (stream units (unread list at)) >>= λ text. Ok (text_in text.list.rest, text.units)
+
+-- what expressions and their macros need
+abbrev pub given_by : FontUnits → ℕ → Given
+given_by font budget = record { names = []; evaluate = evaluated; font = font; budget = budget }
+
+abbrev pub situation_by : Macros → ℕ → Situation
+situation_by macros units =
+    record { env = record { macros = macros; keys = map.empty; levels = 0; lists = 0 }; units = units }
+
+-- a value, and the units behind it
+abbrev pub number_by : ℤ → ℕ → Number
+number_by value units = record { value = value; units = units }
+
+-- a text that was paid for
+abbrev pub paid_by : List Tok → ℕ → PaidText
+paid_by text units = record { text = text; units = units }
+
+-- a key that runs for another
+abbrev pub runner_of : Runner → List ℕ × Run
+runner_of runner = (string_bytes runner.path, runner.run)

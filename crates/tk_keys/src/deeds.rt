@@ -1,0 +1,314 @@
+//! What keys do with values.
+
+ghost use Rattle.std.specs.Prelude.{◌≡◌, ◌+◌, ◌-◌, ◌≤◌, ◌<◌, ◌++◌, ◌∷◌, length, string_bytes, IfOk, IfSome, OnOk, IfNone, Ok, None, option_map, option_copied, unwrap_or, []};
+ghost use Rattle.tk_token.specs.Refusals.{Gives};
+ghost use Rattle.tk_token.specs.Texts as texts;
+ghost use Rattle.tk_expand.specs.Expand.{Stream, full, stream};
+ghost use Rattle.tk_expand.specs.Texts.{texts_of};
+ghost use Rattle.tk_expand.specs.Unread.{unread};
+ghost use Rattle.tk_expr.specs.Evaluated.{evaluated};
+ghost use Rattle.tk_keys.specs.Environment as environment;
+ghost use Rattle.tk_keys.specs.Keys as keys;
+ghost use Rattle.tk_keys.specs.State.{given_of, env_of, situation_of, Keeps, Pays};
+ghost use Rattle.tk_keys.specs.Views.{deed_of, used_of, name_of, expanded_text, paid_by};
+
+use crate::State;
+use std::alloc::{AllocError, Global};
+use std::mem;
+use tk_expand::{Input, Units, expand_all, is_expanded, paid_text};
+use tk_keytext::path_below;
+use tk_store::{Body, Entry, Macro, Need, Run, Store};
+use tk_token::{Code, Fault, Refusal, Tok, text_into, tokens_of};
+
+/// What a key leaves to be run: the text of its code, if it has code.
+#[derive(Drop)]
+pub(crate) struct Deed {
+    pub(crate) text: Option<Body>,
+}
+
+/// The fault of a key, at the place of its part or command.
+pub(crate) fn refused(code: Code, at: u32) -> Refusal
+    ensures { result ≡ Refusal.Fault (record { code = code; at = at }) }
+{
+    Refusal::Fault(Fault { code, at })
+}
+
+/// Nothing is to be run.
+pub(crate) fn done() -> Deed
+    ensures { result.text ≡ None }
+{
+    Deed { text: None }
+}
+
+impl State {
+    /// A name: it is expanded, and then of characters and Spaces alone. It takes the memory of an earlier one where there
+    /// is some, which `keep` gives back.
+    pub(crate) fn named(&mut self, code: Code, at: u32, list: &[Tok]) -> Result<String, Refusal>
+        ensures gives { Gives (λ name. name_of (string_bytes name) self.new) result
+            (keys.named (given_of evaluated self.old) code at list.now (situation_of self.old)) }
+        ensures pays { Pays self.old self.new }
+        ensures used { OnOk result (self.old.units ≤ self.new.units) }
+    {
+        let memory = mem::replace(&mut self.spare, String::new(self.alloc));
+        match expanded_text(memory, at, list, &self.store, &mut self.units)? {
+            Some(name) => Ok(name),
+            None => Err(refused(code, at)),
+        }
+    }
+
+    /// The memory of a name that is done with serves the next one.
+    pub(crate) fn keep(&mut self, name: String)
+        ensures { self.new ≡ self.old }
+    {
+        self.spare = name;
+    }
+
+    /// A word stands for a text from there on.
+    pub(crate) fn set_text(&mut self, word: u32, text: Body) -> Result<(), AllocError>
+        ensures set { OnOk result (situation_of self.new ≡ environment.with_text (situation_of self.old) word text) }
+        ensures kept { OnOk result (Keeps self.old self.new) }
+        ensures used { OnOk result (self.old.units ≤ self.new.units) }
+    {
+        self.store.set_macro(
+            word,
+            Macro {
+                args: 0,
+                body: text,
+            },
+        )
+    }
+
+    /// A word stands for a text that is written so, at that place, from there on.
+    pub(crate) fn set_written(&mut self, at: u32, word: u32, text: &str) -> Result<(), AllocError>
+        ensures set { OnOk result (situation_of self.new
+            ≡ environment.with_text (situation_of self.old) word (texts.tokens_of at text.now)) }
+        ensures kept { OnOk result (Keeps self.old self.new) }
+        ensures used { OnOk result (self.old.units ≤ self.new.units) }
+    {
+        let text = tokens_of(self.alloc, at, text)?;
+        self.set_text(word, Body::from_vec(text)?)
+    }
+
+    /// A key has an entry from there on.
+    pub(crate) fn set_entry(&mut self, path: &str, entry: Entry) -> Result<(), AllocError>
+        ensures set { OnOk result (situation_of self.new ≡ environment.with_key (situation_of self.old) path.now entry) }
+        ensures kept { OnOk result (Keeps self.old self.new) }
+        ensures used { OnOk result (self.old.units ≤ self.new.units) }
+    {
+        self.store.set_key(path, entry)
+    }
+
+    /// The run that stands at a path, if one does.
+    pub(crate) fn run_at(&self, path: &str) -> Result<Option<Run>, AllocError>
+        ensures { IfOk result (λ run. run ≡ keys.run_at (env_of self.now) path.now) }
+    {
+        let Some(entry) = self.store.get_key(path) else {
+            return Ok(None);
+        };
+        match &entry.run {
+            Some(run) => Ok(Some(run.copy()?)),
+            None => Ok(None),
+        }
+    }
+
+    /// What a run makes of a value, if it isn't a choice.
+    fn run(&mut self, at: u32, run: &Run, value: Option<&[Tok]>) -> Result<Deed, Refusal>
+        ensures gives { Gives (λ deed. deed_of deed self.new) result
+            (keys.run (given_of evaluated self.old) at run.now (option_copied value.entry) (situation_of self.old)) }
+        ensures kept { OnOk result (Keeps self.old self.new) }
+        ensures used { OnOk result (self.old.units ≤ self.new.units) }
+    {
+        match run {
+            Run::Native(_) => Err(refused(Code::Unbuilt, at)),
+            Run::Choice => Err(refused(Code::ValueRequired, at)),
+            Run::StoreIn(word) => {
+                let text = Body::new(self.alloc, value.unwrap_or(&[]))?;
+                self.set_text(*word, text)?;
+                Ok(done())
+            }
+            Run::Code(args, body) => {
+                let text = code_text(self.alloc, at, *args, body, value, &mut self.units)?;
+                Ok(Deed { text: Some(text) })
+            }
+        }
+    }
+
+    /// A choice at a path: the value names a key below it, which runs without a value.
+    fn choose(&mut self, at: u32, path: &str, value: &[Tok]) -> Result<Deed, Refusal>
+        ensures gives { Gives (λ deed. deed_of deed self.new) result
+            (keys.choose (given_of evaluated self.old) at path.now value.now (situation_of self.old)) }
+        ensures kept { OnOk result (Keeps self.old self.new) }
+        ensures used { OnOk result (self.old.units ≤ self.new.units) }
+    {
+        let name = self.named(Code::UnknownChoice, at, value)?;
+        let chosen = path_below(self.alloc, path, &name)?;
+        match self.run_at(&chosen)? {
+            Some(run) => self.run(at, &run, None),
+            None => Err(refused(Code::UnknownChoice, at)),
+        }
+    }
+
+    /// What the run at a path makes of a value.
+    pub(crate) fn run_key(
+        &mut self,
+        at: u32,
+        path: &str,
+        run: &Run,
+        value: Option<&[Tok]>,
+    ) -> Result<Deed, Refusal>
+        ensures gives { Gives (λ deed. deed_of deed self.new) result
+            (keys.run_key (given_of evaluated self.old) at path.now run.now (option_copied value.entry) (situation_of self.old)) }
+        ensures kept { OnOk result (Keeps self.old self.new) }
+        ensures used { OnOk result (self.old.units ≤ self.new.units) }
+    {
+        match run {
+            Run::Choice => match value {
+                Some(value) => self.choose(at, path, value),
+                None => self.run(at, run, None),
+            },
+            _ => self.run(at, run, value),
+        }
+    }
+
+    /// An entry without a run takes a value where one is stored, which becomes that one; else it does nothing.
+    fn store_value(
+        &mut self,
+        at: u32,
+        path: &str,
+        entry: Entry,
+        value: Option<&[Tok]>,
+    ) -> Result<Option<Deed>, Refusal>
+        ensures gives { Gives (λ used. used_of used self.new) result
+            (keys.use_by (given_of evaluated self.old) at path.now entry None entry.value (option_copied value.entry) (situation_of self.old)) }
+        ensures none { IfOk result (λ used. IfNone used (self.new ≡ self.old)) }
+        ensures kept { OnOk result (Keeps self.old self.new) }
+        ensures used { OnOk result (self.old.units ≤ self.new.units) }
+    {
+        if entry.value.is_none() {
+            return Ok(None);
+        }
+        let Some(taken) = value_by(at, &entry.need, value)? else {
+            return Err(refused(Code::ValueRequired, at));
+        };
+        let value = Some(Body::new(self.alloc, taken)?);
+        self.set_entry(path, Entry { value, ..entry })?;
+        Ok(Some(done()))
+    }
+
+    /// The key at a path takes a value, if it has a run or a stored value: its run does, or else its stored value becomes
+    /// that one.
+    pub(crate) fn use_key(
+        &mut self,
+        at: u32,
+        path: &str,
+        value: Option<&[Tok]>,
+    ) -> Result<Option<Deed>, Refusal>
+        ensures gives { Gives (λ used. used_of used self.new) result
+            (keys.use_key (given_of evaluated self.old) at path.now (option_copied value.entry) (situation_of self.old)) }
+        ensures none { IfOk result (λ used. IfNone used (self.new ≡ self.old)) }
+        ensures kept { OnOk result (Keeps self.old self.new) }
+        ensures used { OnOk result (self.old.units ≤ self.new.units) }
+    {
+        let Some(entry) = self.store.get_key(path) else {
+            return Ok(None);
+        };
+        let Some(run) = &entry.run else {
+            let entry = entry.copy()?;
+            return self.store_value(at, path, entry, value);
+        };
+        let run = run.copy()?;
+        let need = entry.need.copy()?;
+        let taken = value_by(at, &need, value)?;
+        Ok(Some(self.run_key(at, path, &run, taken)?))
+    }
+}
+
+/// The text of a list, once it is expanded, in the memory of a string; other tokens than characters and Spaces have none.
+fn expanded_text(
+    memory: String,
+    at: u32,
+    list: &[Tok],
+    store: &Store,
+    units: &mut Units,
+) -> Result<Option<String>, Refusal>
+    ensures gives { Gives (λ text. (option_map string_bytes text, units.new.used)) result
+        (expanded_text units.old.budget store.now.top.macros units.old.used at list.now) }
+    ensures budget { units.new.budget ≡ units.old.budget }
+    ensures used { OnOk result (units.old.used ≤ units.new.used) }
+{
+    if is_expanded(list, store) {
+        return Ok(text_into(memory, list)?);
+    }
+    let alloc = *memory.allocator();
+    let list = Vec::from_slice(alloc, list)?;
+    let text = expand_all(alloc, list, store, units)?;
+    Ok(text_into(memory, &text)?)
+}
+
+/// The value that a key takes where it is given that one, by its need.
+fn value_by<'a>(
+    at: u32,
+    need: &'a Need,
+    value: Option<&'a [Tok]>,
+) -> Result<Option<&'a [Tok]>, Refusal>
+    ensures { Gives (λ taken. option_copied taken) result
+        (keys.value_by at need.now (option_copied value.entry)) }
+{
+    match (need, value) {
+        (Need::Default(body), None) => Ok(Some(body.as_slice())),
+        (Need::Required, None) => Err(refused(Code::ValueRequired, at)),
+        (Need::Forbidden, Some(_)) => Err(refused(Code::ValueForbidden, at)),
+        _ => Ok(value),
+    }
+}
+
+/// The text of code, in which its arguments take their places, once it is paid for.
+fn code_text(
+    alloc: Global,
+    at: u32,
+    args: u8,
+    body: &Body,
+    value: Option<&[Tok]>,
+    units: &mut Units,
+) -> Result<Body, Refusal>
+    ensures gives { Gives (λ text. paid_by text units.new.used) result
+        (keys.code_text units.old.budget at args body.now (option_copied value.entry) units.old.used) }
+    ensures budget { units.new.budget ≡ units.old.budget }
+    ensures used { OnOk result (units.old.used ≤ units.new.used) }
+{
+    let arguments = code_arguments(alloc, at, args, value)?;
+    paid_text(alloc, &arguments, body, at, units)
+}
+
+/// The arguments of code: two in its value, which has to be there, or else the value, which is empty where it isn't there.
+fn code_arguments(
+    alloc: Global,
+    at: u32,
+    args: u8,
+    value: Option<&[Tok]>,
+) -> Result<Vec<Vec<Tok>>, Refusal>
+    ensures { Gives (λ texts. texts_of texts.items) result
+        (keys.code_arguments at args (option_copied value.entry)) }
+{
+    if args == 2 {
+        return match value {
+            Some(value) => two_arguments(alloc, at, value),
+            None => Err(refused(Code::ValueRequired, at)),
+        };
+    }
+    let argument = Vec::from_slice(alloc, value.unwrap_or(&[]))?;
+    Ok(vec![in alloc; argument]?)
+}
+
+/// The two arguments that a value is, with nothing but Spaces round them.
+fn two_arguments(alloc: Global, at: u32, value: &[Tok]) -> Result<Vec<Vec<Tok>>, Refusal>
+    ensures { Gives (λ texts. texts_of texts.items) result (keys.two_arguments at value.now) }
+{
+    let mut input = Input::new(alloc, Body::new(alloc, value)?, at)?;
+    let arguments = input.arguments(2, at)?;
+    input.skip_spaces();
+    if input.raw().is_some() {
+        return Err(refused(Code::MacroArg, at));
+    }
+    Ok(arguments)
+}
