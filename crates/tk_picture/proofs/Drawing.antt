@@ -1,5 +1,5 @@
 -- Paths and documents from their parts, as the code reads them.
-use Rattle.std.proofs.Common.{◌≡◌, ℕ, Bool, true, if◌then◌else◌, List, [], ◌∷◌, Ok, Err, refl, ap, sym, ◌∙◌, codes}
+use Rattle.std.proofs.Common.{◌≡◌, ℕ, Bool, true, if◌then◌else◌, List, [], ◌∷◌, Ok, refl, ap, sym, ◌∙◌, codes}
 use Rattle.tk_item.specs.declared.Seg.{Seg}
 use Rattle.tk_item.specs.declared.Seg.TheVariants.{Move, Line, Curve, Close}
 use Rattle.tk_token.specs.declared.Code.TheVariants.{Unbuilt}

@@ -1,19 +1,16 @@
 -- Where the faults of coordinates stand: at places of the text, or at its `(`.
-use Rattle.std.specs.Prelude.{◌≡◌, ℕ, is_some, if◌then◌else◌, List, Option, Some, None, Ok, Err, IfErr}
-use Rattle.std.proofs.Common.{subst, sym}
-use Rattle.tk_item.specs.declared.Point.{Point}
+use Rattle.std.specs.Prelude.{ℕ, is_some, List}
 use Rattle.tk_token.specs.declared.Code.TheVariants.{Unbuilt}
-use Rattle.tk_token.specs.declared.Fault.{Fault}
 use Rattle.tk_token.specs.declared.Tok.{Tok}
-use Rattle.tk_token.specs.Answers.{Answer, ◌>>=◌, fault, or_fault}
+use Rattle.tk_token.specs.Answers.{or_fault}
 use Rattle.tk_token.specs.Groups.{first_outside}
 use Rattle.tk_token.specs.Kinds.{begins_corner}
 use Rattle.tk_expand.proofs.Places.{StandAt, Stands}
 use Rattle.tk_expr.specs.declared.FontUnits.{FontUnits}
 use Rattle.tk_expr.specs.Evaluated.{evaluated}
 use Rattle.tk_expr.specs.Pairs.{paired, vector_of}
-use Rattle.tk_expr.proofs.Places.{paired_at, vector_at}
-use Rattle.tk_keys.specs.Given.{Given}
+use Rattle.tk_expr.proofs.Places.{evaluated_at, paired_at, vector_at}
+use Rattle.tk_keys.proofs.Sets.{EvaluatesAt as ValuesAt}
 use Rattle.tk_keys.proofs.Standing.{then_at, if_at, only_fault, some_at}
 use Rattle.tk_picture.specs.Coordinates.{centimetre, point_of}
 use Rattle.tk_picture.specs.Outcome.{font_units}
@@ -30,3 +27,6 @@ module _ (P : ℕ → Type 0) where
 
   pub evaluates_at : (names : List (List ℕ)) (budget : ℕ) → EvaluatesAt P (record { names = names; evaluate = evaluated; font = font_units; budget = budget })
   evaluates_at names budget at ts p h = point_at font_units at ts p h
+
+  pub values_at : (names : List (List ℕ)) (budget : ℕ) → ValuesAt P (record { names = names; evaluate = evaluated; font = font_units; budget = budget })
+  values_at names budget at list p h = evaluated_at font_units at list P p h

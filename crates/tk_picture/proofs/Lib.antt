@@ -8,6 +8,5 @@ pub mod Moving
 pub mod Numbered
 pub mod Outcomes
 pub mod PathMoves
-pub mod Pinned
 pub mod Sources
 pub mod Unbounded

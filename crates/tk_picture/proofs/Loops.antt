@@ -1,21 +1,21 @@
 -- Operations and commands one after the other, as the code runs them. What is given stays the same along a loop.
-use Rattle.std.specs.Prelude.{◌≡◌, ℕ, ◌+◌, ◌<◌, ◌≤◌, length, Option, Some, None, Ok, Err}
+use Rattle.std.specs.Prelude.{◌≡◌, ◌+◌, ◌<◌, ◌≤◌, length, Option, Some, None, Ok}
 use Rattle.std.specs.Option.{option_to_list}
-use Rattle.std.proofs.Common.{refl, sym, subst, ap, ◌∙◌, arith}
+use Rattle.std.proofs.Common.{subst, ◌∙◌, arith}
 use Rattle.tk_token.specs.declared.Refusal.{Refusal}
 use Rattle.tk_token.specs.declared.Tok.{Tok}
 use Rattle.tk_token.specs.Answers.{Answer, ◌>>=◌}
 use Rattle.tk_token.specs.Refusals.{Fails}
 use Rattle.tk_token.proofs.Answering.{then_is, known_of, fails_then, fails_as}
 use Rattle.tk_keys.specs.Given.{Given}
-use Rattle.tk_picture.specs.Commands.{BlockOpener, Block, block, CommandFlow, command_at, commands_step, commands}
+use Rattle.tk_picture.specs.Commands.{BlockOpener, block, CommandFlow, command_at, commands}
 use Rattle.tk_picture.specs.Configurations.{Configuration, Progress, Lookahead, work_at, ahead_of}
-use Rattle.tk_picture.specs.Flow.{Flow, Goes_on, Finishes, go_on}
-use Rattle.tk_picture.specs.Paths.{PathOpener, stretch, PathFlow, path_part, operations_step, operations}
-use Rattle.tk_picture.proofs.CommandMoves as moves
+use Rattle.tk_picture.specs.Flow.{Goes_on, Finishes, go_on}
+use Rattle.tk_picture.specs.Paths.{PathOpener, stretch, PathFlow, path_part, operations}
 use Rattle.tk_picture.proofs.Moving.{Looks}
 use Rattle.tk_picture.proofs.PathMoves as path_moves
-use Rattle.tk_picture.proofs.Unbounded.{Any, any_evaluates, part_less, operations_are, looks_any, Falls, command_falls, commands_are}
+use Rattle.tk_picture.proofs.Unbounded.{any_evaluates, part_less, operations_are, looks_any, Falls, command_falls, commands_are}
+use Rattle.tk_keys.proofs.Ran.{Any}
 
 -- ---- operations
 

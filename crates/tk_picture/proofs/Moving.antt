@@ -1,21 +1,20 @@
 -- How a run moves through a picture. From one configuration it comes to another where no work is added, and where tokens,
 -- bodies and the end of the list stand at certain places; its faults stand at such places too. At first P is any set of
 -- places. The laws of recursion take all places, and the law that faults stand within the source those within it.
-use Rattle.std.specs.Prelude.{◌≡◌, ℕ, ◌+◌, ◌<◌, ◌≤◌, Bool, true, false, if◌then◌else◌, List, [], ◌∷◌, length, Option, Some, None, Ok, Err, IfOk, IfSome, codes}
-use Rattle.std.specs.Option.{option_to_list}
+use Rattle.std.specs.Prelude.{ℕ, Bool, List, Option, Some, None, Ok}
 use Rattle.std.proofs.Common.{sym, subst, ◌∙◌, arith}
 use Rattle.tk_token.specs.declared.Code.TheVariants.{Unbuilt}
 use Rattle.tk_token.specs.declared.Kind.{Kind}
 use Rattle.tk_token.specs.declared.Tok.{Tok}
-use Rattle.tk_token.specs.Answers.{Answer, ◌>>=◌, fault}
-use Rattle.tk_expand.specs.Expand.{Stream, stream, work}
+use Rattle.tk_token.specs.Answers.{fault}
+use Rattle.tk_expand.specs.Expand.{Stream, stream}
 use Rattle.tk_expand.specs.Reading.{Next, taken, next_solid, after_next, after_letters}
 use Rattle.tk_expand.proofs.Falling.{Falls, LessLeft, Takes, falls_then, less_falls, less_then, then_less, next_solid_takes, after_next_less, after_letters_falls}
-use Rattle.tk_expand.proofs.Places.{StandAt, Stands, StreamAt, BodiesAt}
+use Rattle.tk_expand.proofs.Places.{StandAt, Stands, StreamAt}
 use Rattle.tk_keys.specs.Given.{Given}
-use Rattle.tk_picture.specs.Configurations.{Configuration, Progress, stream_at, with_stream, Lookahead, lookahead, place_ahead, must_be, ahead_of, behind_next, behind_letters}
-use Rattle.tk_picture.specs.Flow.{Flow, Goes_on, Finishes}
+use Rattle.tk_picture.specs.Configurations.{Configuration, Progress, stream_at, Lookahead, lookahead, must_be, ahead_of, behind_next, behind_letters}
 use Rattle.tk_expand.proofs.NextPlaces.{TokenAt, NextAt, next_solid_at, after_next_at, after_letters_at}
+use Rattle.tk_keys.proofs.Entries.{EnvAt}
 use Rattle.tk_keys.proofs.Standing.{then_at, if_at, both_at}
 
 -- the units and the list that came back
@@ -25,7 +24,7 @@ stream_back p = stream p.picture.units p.list
 module _ (P : ℕ → Type 0) (given : Given) where
   -- bodies, tokens and the end of the list stand at such places
   pub record At (c : Configuration) : Type 0 where
-    pub bodies : BodiesAt P c.env.macros
+    pub env : EnvAt P c.env
     pub rest : StandAt P c.list.rest
     pub end : P c.list.end
 
@@ -88,17 +87,17 @@ module _ (P : ℕ → Type 0) (given : Given) where
   pub ahead_at : (c : Configuration) → At c → Stands P (Looks c) (ahead_of given c)
   unfolding ahead_of
   ahead_at c h =
-      then_at P (λ (n : Next). NextAt P n × Takes given.budget (stream_at c) n) (Looks c) (next_solid given.budget c.env.macros (stream_at c)) _ (both_at P (NextAt P) (Takes given.budget (stream_at c)) (next_solid given.budget c.env.macros (stream_at c)) (next_solid_at P given.budget c.env.macros h.bodies (stream_at c) h.rest) (next_solid_takes given.budget c.env.macros (stream_at c))) (λ n k.
-      record { takes = k.1; token = k.0.0; at = record { bodies = h.bodies; rest = k.0.1; end = subst P (sym k.1.end) h.end } })
+      then_at P (λ (n : Next). NextAt P n × Takes given.budget (stream_at c) n) (Looks c) (next_solid given.budget c.env.macros (stream_at c)) _ (both_at P (NextAt P) (Takes given.budget (stream_at c)) (next_solid given.budget c.env.macros (stream_at c)) (next_solid_at P given.budget c.env.macros h.env.bodies (stream_at c) h.rest) (next_solid_takes given.budget c.env.macros (stream_at c))) (λ n k.
+      record { takes = k.1; token = k.0.0; at = record { env = h.env; rest = k.0.1; end = subst P (sym k.1.end) h.end } })
 
   pub next_at : (wanted : Kind → Bool) (c : Configuration) → At c → Stands P (Advances c) (behind_next given wanted c)
   unfolding behind_next
   next_at wanted c h =
-      then_at P (λ (r : Stream). StreamAt P r × LessLeft given.budget (stream_at c) r) (Advances c) (after_next given.budget c.env.macros Unbuilt wanted (stream_at c)) _ (both_at P (StreamAt P) (LessLeft given.budget (stream_at c)) (after_next given.budget c.env.macros Unbuilt wanted (stream_at c)) (after_next_at P given.budget c.env.macros h.bodies Unbuilt wanted (stream_at c) h.end h.rest) (after_next_less given.budget c.env.macros Unbuilt wanted (stream_at c))) (λ r k.
-      record { less = k.1; at = record { bodies = h.bodies; rest = k.0; end = subst P (sym k.1.end) h.end } })
+      then_at P (λ (r : Stream). StreamAt P r × LessLeft given.budget (stream_at c) r) (Advances c) (after_next given.budget c.env.macros Unbuilt wanted (stream_at c)) _ (both_at P (StreamAt P) (LessLeft given.budget (stream_at c)) (after_next given.budget c.env.macros Unbuilt wanted (stream_at c)) (after_next_at P given.budget c.env.macros h.env.bodies Unbuilt wanted (stream_at c) h.end h.rest) (after_next_less given.budget c.env.macros Unbuilt wanted (stream_at c))) (λ r k.
+      record { less = k.1; at = record { env = h.env; rest = k.0; end = subst P (sym k.1.end) h.end } })
 
   pub letters_at : (text : List ℕ) (c : Configuration) → At c → Stands P (Comes c) (behind_letters given text c)
   unfolding behind_letters
   letters_at text c h =
-      then_at P (λ (r : Stream). StreamAt P r × Falls given.budget (stream_at c) r) (Comes c) (after_letters given.budget c.env.macros Unbuilt text (stream_at c)) _ (both_at P (StreamAt P) (Falls given.budget (stream_at c)) (after_letters given.budget c.env.macros Unbuilt text (stream_at c)) (after_letters_at P given.budget c.env.macros h.bodies Unbuilt text (stream_at c) h.end h.rest) (after_letters_falls given.budget c.env.macros Unbuilt text (stream_at c))) (λ r k.
-      record { fell = k.1; at = record { bodies = h.bodies; rest = k.0; end = subst P (sym k.1.end) h.end } })
+      then_at P (λ (r : Stream). StreamAt P r × Falls given.budget (stream_at c) r) (Comes c) (after_letters given.budget c.env.macros Unbuilt text (stream_at c)) _ (both_at P (StreamAt P) (Falls given.budget (stream_at c)) (after_letters given.budget c.env.macros Unbuilt text (stream_at c)) (after_letters_at P given.budget c.env.macros h.env.bodies Unbuilt text (stream_at c) h.end h.rest) (after_letters_falls given.budget c.env.macros Unbuilt text (stream_at c))) (λ r k.
+      record { fell = k.1; at = record { env = h.env; rest = k.0; end = subst P (sym k.1.end) h.end } })

@@ -1,34 +1,29 @@
 -- How a run moves along coordinates and paths.
-use Rattle.std.specs.Prelude.{◌≡◌, ℕ, zero, suc, ◌+◌, ◌-◌, ◌<◌, ◌≤◌, Bool, true, false, if◌then◌else◌, is_some, List, [], ◌∷◌, length, take, Option, Some, None, Ok, Err, IfOk, IfSome, codes}
+use Rattle.std.specs.Prelude.{ℕ, zero, suc, ◌+◌, ◌-◌, ◌<◌, ◌≤◌, List, [], ◌∷◌, length, take, Option, Some, None, IfSome, codes}
 use Rattle.std.specs.List.{suffix_len}
 use Rattle.std.proofs.Common.{refl, arith}
-use Rattle.tk_item.specs.declared.Point.{Point}
-use Rattle.tk_item.specs.declared.Seg.TheVariants.{Move, Line, Close}
+use Rattle.tk_item.specs.declared.Seg.TheVariants.{Move, Close}
 use Rattle.tk_token.specs.declared.Code.TheVariants.{Budget, Unbuilt}
 use Rattle.tk_token.specs.declared.Tok.{Tok}
-use Rattle.tk_token.specs.Answers.{Answer, ◌>>=◌, fault, or_fault}
+use Rattle.tk_token.specs.Answers.{Answer, fault, or_fault}
 use Rattle.tk_characters.specs.Characters.{dash, semicolon, left_parenthesis, right_parenthesis}
-use Rattle.tk_token.specs.Groups.{Cut, first_outside, before_char, closer_of}
-use Rattle.tk_token.specs.Kinds.{is_char, begins_corner}
+use Rattle.tk_token.specs.Groups.{Cut, before_char, closer_of}
+use Rattle.tk_token.specs.Kinds.{is_char}
 use Rattle.tk_token.specs.Spaces.{is_space_token, after_spaces, before_spaces, trimmed}
 use Rattle.tk_token.proofs.Outside.{before_char_keeps, before_char_shorter, closer_keeps}
 use Rattle.tk_token.proofs.Fixpoint.{kept}
-use Rattle.tk_expand.specs.Unread.{Unread, unread}
+use Rattle.tk_expand.specs.Unread.{unread}
 use Rattle.tk_expand.specs.Expand.{Stream, stream, full}
 use Rattle.tk_expand.specs.Reading.{is_there, place_of}
-use Rattle.tk_expand.proofs.Falling.{Falls, LessLeft, less_then}
 use Rattle.tk_expand.proofs.Places.{StandAt, Stands, StreamAt, CutAt, full_at}
-use Rattle.tk_expr.specs.declared.FontUnits.{FontUnits}
-use Rattle.tk_expr.specs.Evaluates.{Evaluation, IsEvaluation}
-use Rattle.tk_expr.specs.Pairs.{paired, vector_of}
 use Rattle.tk_keys.specs.Given.{Given}
-use Rattle.tk_picture.specs.Configurations.{Configuration, Progress, stream_at, Lookahead, place_ahead, must_be, ahead_of, behind_next, behind_letters}
-use Rattle.tk_picture.specs.Coordinates.{centimetre, Reached, break_of, point_of, coordinate, point_ahead}
-use Rattle.tk_picture.specs.Flow.{Flow, Goes_on, Finishes, go_on}
+use Rattle.tk_picture.specs.Configurations.{Configuration, Progress, Lookahead, place_ahead, must_be, ahead_of, behind_next, behind_letters}
+use Rattle.tk_picture.specs.Coordinates.{Reached, break_of, point_of, coordinate, point_ahead}
+use Rattle.tk_picture.specs.Flow.{Goes_on, Finishes, go_on}
 use Rattle.tk_picture.specs.Paths.{Stretch, stretch, PathOpener, A_path, PathFlow, drawn_with, letter_c, path_end, line, cycle, dashes, line_target, operation, path_part, operations_step, stretch_work, operations, path}
 use Rattle.tk_expand.proofs.NextPlaces.{place_at}
 use Rattle.tk_keys.proofs.Reading.{spaces_at}
-use Rattle.tk_picture.proofs.Moving.{At, Comes, Advances, Looks, Returns, comes, advances_then, then_advances, then_returns, then_looks, looked, must_at, ahead_at, next_at, letters_at}
+use Rattle.tk_picture.proofs.Moving.{At, Comes, Advances, Looks, Returns, comes, advances_then, then_advances, then_returns, looked, must_at, ahead_at, next_at, letters_at}
 use Rattle.tk_keys.proofs.Spending.{full_spends}
 use Rattle.tk_keys.proofs.Standing.{then_at, if_at, both_at, weaker_at}
 
@@ -73,9 +68,9 @@ module _ (P : ℕ → Type 0) (given : Given) (begin : P 0) (evaluates : Evaluat
   coordinate_at at c p h =
       then_at P (WrittenAt c) (Reaches c) (or_fault (before_char right_parenthesis c.list.rest) Unbuilt (break_of c.list)) _ (written_at c h) (λ written w.
       let inside = stream c.picture.units (unread written.front at) in
-      then_at P (λ (r : Stream). StreamAt P r × (c.picture.units ≤ r.units)) (Reaches c) (full given.budget c.env.macros inside) _ (both_at P (StreamAt P) (λ (r : Stream). c.picture.units ≤ r.units) (full given.budget c.env.macros inside) (full_at P given.budget c.env.macros h.bodies inside w.places.0) (full_spends given.budget c.env.macros inside)) (λ text k.
+      then_at P (λ (r : Stream). StreamAt P r × (c.picture.units ≤ r.units)) (Reaches c) (full given.budget c.env.macros inside) _ (both_at P (StreamAt P) (λ (r : Stream). c.picture.units ≤ r.units) (full given.budget c.env.macros inside) (full_at P given.budget c.env.macros h.env.bodies inside w.places.0) (full_spends given.budget c.env.macros inside)) (λ text k.
       then_at P (λ _. Unit {0}) (Reaches c) (point_of given.evaluate given.font at (trimmed text.list.rest)) _ (evaluates at (trimmed text.list.rest) p (trimmed_at text.list.rest k.0)) (λ point _.
-      record { fell = record { end = refl; units = k.1; work_falls = (let a = w.short in let b = k.1 in omega arith) }; at = record { bodies = h.bodies; rest = w.places.1; end = h.end } })))
+      record { fell = record { end = refl; units = k.1; work_falls = (let a = w.short in let b = k.1 in omega arith) }; at = record { env = h.env; rest = w.places.1; end = h.end } })))
 
   point_at : (c : Configuration) (ahead : Lookahead) → Looks P given c ahead → Stands P (λ (r : Reached). Advances P given c r.behind) (point_ahead given ahead)
   unfolding point_ahead
@@ -98,7 +93,7 @@ module _ (P : ℕ → Type 0) (given : Given) (begin : P 0) (evaluates : Evaluat
   line_at : (c : Configuration) (ahead : Lookahead) → Looks P given c ahead → Stands P (PartAt c) (line given ahead)
   unfolding line
   line_at c ahead h = then_at P (λ (r : Reached). Advances P given c r.behind) (PartAt c) (point_ahead given ahead) _ (point_at c ahead h) (λ r a.
-      record { less = a.less; at = record { bodies = a.at.bodies; rest = a.at.rest; end = a.at.end } })
+      record { less = a.less; at = record { env = a.at.env; rest = a.at.rest; end = a.at.end } })
 
   part_further : (c d : Configuration) (part : PathFlow) → Comes P given c d → PartAt d part → PartAt c part
   part_further c d (Goes_on e) a b = then_advances P given c d e a b
@@ -108,8 +103,8 @@ module _ (P : ℕ → Type 0) (given : Given) (begin : P 0) (evaluates : Evaluat
   unfolding cycle
   cycle_at c h =
       then_at P (Comes P given c) (PartAt c) (behind_letters given (codes "ycle") c) _ (letters_at P given (codes "ycle") c h) (λ d a.
-      then_at P (Looks P given (drawn_with Close d)) (PartAt c) (ahead_of given (drawn_with Close d)) _ (ahead_at P given (drawn_with Close d) (record { bodies = a.at.bodies; rest = a.at.rest; end = a.at.end })) (λ last b.
-      weaker_at P (PartAt (drawn_with Close d)) (PartAt c) (path_end last) (λ part k. part_further c (drawn_with Close d) part (record { fell = a.fell; at = record { bodies = a.at.bodies; rest = a.at.rest; end = a.at.end } }) k) (end_at (drawn_with Close d) last b)))
+      then_at P (Looks P given (drawn_with Close d)) (PartAt c) (ahead_of given (drawn_with Close d)) _ (ahead_at P given (drawn_with Close d) (record { env = a.at.env; rest = a.at.rest; end = a.at.end })) (λ last b.
+      weaker_at P (PartAt (drawn_with Close d)) (PartAt c) (path_end last) (λ part k. part_further c (drawn_with Close d) part (record { fell = a.fell; at = record { env = a.at.env; rest = a.at.rest; end = a.at.end } }) k) (end_at (drawn_with Close d) last b)))
 
   dashes_at : (c : Configuration) (ahead : Lookahead) → Looks P given c ahead → Stands P (Advances P given c) (dashes given ahead)
   unfolding dashes
@@ -155,5 +150,5 @@ module _ (P : ℕ → Type 0) (given : Given) (begin : P 0) (evaluates : Evaluat
       then_at P (Looks P given c) (Returns P given c) (ahead_of given c) _ (ahead_at P given c h) (λ first a.
       then_at P (λ (r : Reached). Advances P given c r.behind) (Returns P given c) (point_ahead given first) _ (point_at c first a) (λ start b.
       let begun = drawn_with (Move start.point) start.behind in
-      let there : Advances P given c begun = record { less = b.less; at = record { bodies = b.at.bodies; rest = b.at.rest; end = b.at.end } } in
+      let there : Advances P given c begun = record { less = b.less; at = record { env = b.at.env; rest = b.at.rest; end = b.at.end } } in
       weaker_at P (Returns P given begun) (Returns P given c) (operations given (stretch (A_path at) begun)) (λ p k. then_returns P given c begun p (comes P given c begun there) k) (operations_at (stretch (A_path at) begun) there.at)))

@@ -1,5 +1,5 @@
 -- Operations and commands are what one step of their definition says, and no bound on how deep the steps go is met.
-use Rattle.std.specs.Prelude.{◌≡◌, ℕ, ◌+◌, ◌<◌, ◌≤◌, List, [], ◌∷◌, length, Option, Some, None, Ok, Err, IfOk}
+use Rattle.std.specs.Prelude.{◌≡◌, ◌+◌, ◌<◌, ◌≤◌, length, Option, Some, None, Ok, Err, IfOk}
 use Rattle.std.specs.Option.{option_to_list}
 use Rattle.std.proofs.Common.{refl, ap, ◌∙◌, arith}
 use Rattle.tk_token.specs.declared.Code.TheVariants.{Budget}
@@ -8,27 +8,20 @@ use Rattle.tk_token.specs.Answers.{Answer, ◌>>=◌, fault}
 use Rattle.tk_token.specs.Recursion.{by_size}
 use Rattle.tk_token.proofs.Answering.{then_alike}
 use Rattle.tk_expand.proofs.NextPlaces.{TokenAt}
-use Rattle.tk_expand.proofs.Places.{StandAt, Stands}
+use Rattle.tk_expand.proofs.Places.{Stands}
 use Rattle.tk_keys.specs.Environment.{Env, level}
 use Rattle.tk_keys.specs.Given.{Given}
+use Rattle.tk_keys.proofs.Ran.{Any, any_list, any_env, any_evaluates as any_values}
 use Rattle.tk_keys.proofs.Standing.{ok_at, any_value}
 use Rattle.tk_picture.specs.Commands.{BlockOpener, A_picture, A_group, Beginning, Begins_path, Opens_group, Closes_group, Ends_environment, Begins_other, beginning_of, Block, block, CommandFlow, command, command_at, commands_step, block_work, commands}
-use Rattle.tk_picture.specs.Configurations.{Configuration, Progress, with_progress, Lookahead, work_at, ahead_of}
-use Rattle.tk_picture.specs.Flow.{Flow, Goes_on, Finishes, go_on}
-use Rattle.tk_picture.specs.Paths.{Stretch, stretch, PathOpener, PathFlow, path_part, operations_step, stretch_work, operations}
+use Rattle.tk_picture.specs.Configurations.{Configuration, Progress, with_progress, work_at, ahead_of}
+use Rattle.tk_picture.specs.Flow.{Goes_on, Finishes, go_on}
+use Rattle.tk_picture.specs.Paths.{Stretch, stretch, PathFlow, path_part, operations_step, stretch_work, operations}
 use Rattle.tk_picture.proofs.CommandMoves as moves
-use Rattle.tk_picture.proofs.Moving.{At, Comes, Advances, Looks, Returns, ahead_at}
+use Rattle.tk_picture.proofs.Moving.{At, Looks, ahead_at}
 use Rattle.tk_picture.proofs.PathMoves as path_moves
 use Rattle.tk_picture.proofs.PathMoves.{EvaluatesAt, part_at}
-use Rattle.tk_picture.proofs.Pinned.{IsPinned, is_its_step, is_never_stuck}
-
--- all places
-abbrev pub Any : ℕ → Type 0
-Any at = Unit {0}
-
-any_stand : (ts : List Tok) → StandAt Any ts
-any_stand [] = tt
-any_stand (t ∷ ts) = (tt, any_stand ts)
+use Rattle.tk_keys.proofs.Pinned.{IsPinned, is_its_step, is_never_stuck}
 
 pub stands_anywhere : {A : Type 0} (m : Answer A) → Stands Any (λ _. Unit {0}) m
 stands_anywhere (Ok a) = tt
@@ -36,7 +29,7 @@ stands_anywhere (Err e) = tt
 
 module _ (given : Given) where
   any_at : (c : Configuration) → At Any given c
-  any_at c = record { bodies = (λ w m is. any_stand m.body); rest = any_stand c.list.rest; end = tt }
+  any_at c = record { env = any_env c.env; rest = any_list c.list.rest; end = tt }
 
   pub any_evaluates : EvaluatesAt Any given
   any_evaluates at ts p h = stands_anywhere _
@@ -69,10 +62,10 @@ module _ (given : Given) where
   looks_any c = ok_at Any (Looks Any given c) (ahead_of given c) (ahead_at Any given c (any_at c))
 
   abbrev pub Falls : Configuration → CommandFlow → Type 0
-  Falls c part = moves.PartAt Any given tt any_evaluates c part
+  Falls c part = moves.PartAt Any given tt any_evaluates (any_values given) c part
 
   pub command_falls : (opener : BlockOpener) (token : Option Tok) (c : Configuration) → IfOk (command_at given (commands given) opener token c) (Falls c)
-  command_falls opener token c = ok_at Any (Falls c) (command_at given (commands given) opener token c) (moves.command_at_moves Any given tt any_evaluates (commands given) (λ b k. moves.commands_move Any given tt any_evaluates b k) opener token c (any_token token) (any_at c))
+  command_falls opener token c = ok_at Any (Falls c) (command_at given (commands given) opener token c) (moves.command_at_moves Any given tt any_evaluates (any_values given) (commands given) (λ b k. moves.commands_move Any given tt any_evaluates (any_values given) b k) opener token c (any_token token) (any_at c))
     where
       any_token : (token : Option Tok) → TokenAt Any token
       any_token None = tt

@@ -8,13 +8,13 @@ use Rattle.tk_token.specs.declared.Code.TheVariants.{Budget, Unbuilt}
 use Rattle.tk_token.specs.Answers.{Answer, ◌>>=◌, fault}
 use Rattle.tk_token.specs.Recursion.{by_size}
 use Rattle.tk_expand.specs.Reading.{after_name}
-use Rattle.tk_keys.specs.Environment.{Env, level}
+use Rattle.tk_keys.specs.Environment.{level}
 use Rattle.tk_keys.specs.Given.{Given}
 use Rattle.tk_keys.specs.Settings.{Set, one_setting}
 use Rattle.tk_picture.specs.Flow.{Flow, Goes_on, Finishes, go_on}
 use Rattle.tk_picture.specs.Paths.{path}
-use Rattle.tk_picture.specs.Pictures.{drawn}
-use Rattle.tk_picture.specs.Configurations.{Configuration, Progress, progress, progress_at, with_progress, stream_at, with_stream, work_at, ahead_of}
+use Rattle.tk_picture.specs.Pictures.{with_units, drawn}
+use Rattle.tk_picture.specs.Configurations.{Configuration, configuration, Progress, progress, progress_at, with_progress, situation_at, work_at, ahead_of}
 
 -- what commands stand in, with its place: a picture, to its `\end{tikzpicture}`, or a group, to its `}`
 pub data BlockOpener : Type 0 where
@@ -63,7 +63,7 @@ with_path p = progress (drawn p.picture) p.list
 
 -- the run goes on behind a setting
 abbrev pub with_setting : Configuration → Set → Configuration
-with_setting c set = record (with_stream c set.stream) { env = set.env }
+with_setting c set = configuration set.now.env (with_units c.picture set.now.units) set.list
 
 -- a setting that stands there; nothing else is built
 abbrev pub set_or_unbuilt : ℕ → Configuration → Option Set → Answer CommandFlow
@@ -87,7 +87,7 @@ module _ (given : Given) where
       list ← after_name Unbuilt (codes "tikzpicture") c.list
       Ok (Finishes (progress c.picture list))
     command Begins_other t opener c = do
-      set ← one_setting given t c.env (stream_at c)
+      set ← one_setting given t (situation_at c) c.list
       set_or_unbuilt t.at c set
     command _ t opener c = fault Unbuilt t.at
 

@@ -7,11 +7,11 @@ use Rattle.tk_token.specs.Answers.{Answer, ◌>>=◌, fault}
 use Rattle.tk_expand.specs.Unread.{Unread}
 use Rattle.tk_expand.specs.Expand.{Stream, stream, work}
 use Rattle.tk_expand.specs.Reading.{is_there, place_of, next_solid, after_next, after_letters}
-use Rattle.tk_keys.specs.Environment.{Env}
+use Rattle.tk_keys.specs.Environment.{Env, Situation}
 use Rattle.tk_keys.specs.Given.{Given}
 use Rattle.tk_picture.specs.Pictures.{Picture, with_units}
 
--- what words mean, the picture so far, and the list that is left
+-- what words and keys mean, the picture so far, and the list that is left
 pub record Configuration : Type 0 where
   pub env : Env
   pub picture : Picture
@@ -43,6 +43,10 @@ with_progress c p = configuration c.env p.picture p.list
 -- the units paid so far, and the list that is left
 abbrev pub stream_at : Configuration → Stream
 stream_at c = stream c.picture.units c.list
+
+-- what words and keys mean, and the units paid so far
+abbrev pub situation_at : Configuration → Situation
+situation_at c = record { env = c.env; units = c.picture.units }
 
 -- the run goes on with that stream
 abbrev pub with_stream : Configuration → Stream → Configuration

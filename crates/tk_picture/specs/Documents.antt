@@ -1,5 +1,5 @@
 -- Documents: the tokens of a whole source.
-use Rattle.std.specs.Prelude.{ℕ, Bool, false, if◌then◌else◌, List, [], ◌∷◌, Option, Some, None, Ok, pos, codes, unwrap_or, slice_get}
+use Rattle.std.specs.Prelude.{ℕ, Bool, false, if◌then◌else◌, List, [], ◌∷◌, Ok, pos, codes, unwrap_or, slice_get}
 use Rattle.std.specs.Str.{bytes_eq}
 use Rattle.tk_item.specs.declared.Frame.{Frame}
 use Rattle.tk_token.specs.declared.Kind.{Kind}

@@ -1,5 +1,5 @@
 -- What the code holds, as the definitions see it. Only the code's own contracts use this.
-use Rattle.std.specs.Prelude.{◌≡◌, ℕ, List, [], Option, IfSome}
+use Rattle.std.specs.Prelude.{◌≡◌, List, [], Option, IfSome}
 use Rattle.std.specs.List.{AllByRecursion}
 use Rattle.tk_item.specs.declared.Point.{Point}
 use Rattle.tk_item.specs.declared.Seg.{Seg}
@@ -76,12 +76,13 @@ OnlyPays old new = new ≡ record old { state = record old.state { units = new.s
 abbrev pub reached_of : Point → Drawer → List Seg → Unread → Reached
 reached_of point d segs list = record { point = point; behind = configuration_of d segs list }
 
--- what was given stays, and so do the levels further out
+-- what was given stays, and so do the levels further out and the count of running key lists
 pub record KeepsGiven (old new : Drawer) : Type 0 where
   pub given : given_to new ≡ given_to old
+  pub lists : new.state.lists ≡ old.state.lists
   pub outer : new.state.levels.outer ≡ old.state.levels.outer
 
--- nothing is drawn or paid, and no word has a macro
+-- nothing is drawn or paid, and no word has a macro and no key an entry
 pub record IsNew (d : Drawer) : Type 0 where
   pub env : env_of d.state ≡ first_env
   pub picture : picture_of d [] ≡ first_picture

@@ -134,6 +134,7 @@ impl Drawer {
     }
 
     /// Runs the setting that begins with a token which was taken; nothing else is built.
+    #[tactic(auto, using(tk_expr::proofs::Runs::evaluated_is_the_answer))]
     fn set(&mut self, input: &mut Input, first: Tok) -> Result<Flow, Refusal>
         requires sound { IsSound self.old }
         ensures gives { (opener : AnOpener) → Gives (flow_of self.new [] input.new) result

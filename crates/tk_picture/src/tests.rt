@@ -10,7 +10,7 @@ use tk_token::{Code, Fault, Refusal};
 
 /// A line of a picture, the budget, and the units that it costs with the paths that it draws, or its fault with the column,
 /// counted from 1. One centimetre is 1,864,679 scaled points.
-const LINES: [(&str, u64, &str); 45] = [
+const LINES: [(&str, u64, &str); 64] = [
     ("", 0, "0"),
     (r"\draw (0,0) -- (1,0);", 0, "0, M 0 0 L 1864679 0"),
     // A Move alone draws nothing.
@@ -101,6 +101,52 @@ const LINES: [(&str, u64, &str); 45] = [
     (r"\def\h#1{#1}{\h}", 99, "MacroArg 14"),
     (r"\def\h#1{#1}\draw (\h)--(0,0);", 99, "MacroArg 20"),
     (r"\def\x#2{}", 9, "MacroSyntax 8"),
+    // Code costs one unit more than its text has tokens: `\def\m{1}` has 5.
+    (
+        r"\pgfkeys{/a/.code={\def\m{#1}},/a=1}\draw (0,0)--(\m,0);",
+        8,
+        "8, M 0 0 L 1864679 0",
+    ),
+    (
+        r"\pgfkeys{/a/.code={\def\m{#1}},/a=1}\draw (0,0)--(\m,0);",
+        7,
+        "Budget 51",
+    ),
+    (
+        r"\pgfkeys{/a/.code={\def\m{#1}},/a=1}\draw (0,0)--(\m,0);",
+        5,
+        "Budget 32",
+    ),
+    (r"\pgfkeys{/a/.code 2 args={\def\m{#1#2}},/a={1} 2}", 7, "7"),
+    (
+        r"\pgfkeys{/a/.code 2 args={\def\m{#1#2}},/a={1} 2}",
+        6,
+        "Budget 41",
+    ),
+    // A style that grows costs as much as its new code: `\pgfkeysalso{/b}` has 5 tokens.
+    (r"\pgfkeys{/a/.append style=/b}", 6, "6"),
+    (r"\pgfkeys{/a/.append style=/b}", 5, "Budget 10"),
+    (r"\pgfkeys{/a/.style=/b,/a/.append style=/b}", 11, "11"),
+    (
+        r"\pgfkeys{/a/.style=/b,/a/.append style=/b}",
+        10,
+        "Budget 23",
+    ),
+    (r"\pgfkeys{/a/.style=/b,/a/.prefix style=/b}", 11, "11"),
+    (
+        r"\pgfkeys{/a/.style=/b,/a/.prefix style=/b}",
+        10,
+        "Budget 23",
+    ),
+    // A choice, a stand-in and names that call.
+    (r"\pgfkeys{/c/.is choice,/c/x/.code=,/c=x}", 1, "1"),
+    (r"\pgfkeys{/c/.is choice,/c/x/.code=,/c=x}", 0, "Budget 36"),
+    (r"\pgfkeys{/p/.unknown/.code=,/p/q}", 1, "1"),
+    (r"\pgfkeys{/p/.unknown/.code=,/p/q}", 0, "Budget 29"),
+    (r"\pgfkeys{/a/.store in=\m,/a=1,/a/.default=2,/a}", 0, "0"),
+    (r"\def\n{a}\pgfkeys{/\n/.code=,/\n}", 5, "5"),
+    (r"\def\n{a}\pgfkeys{/\n/.code=,/\n}", 4, "Budget 30"),
+    (r"\def\n{a}\pgfkeys{/\n/.code=,/\n}", 3, "Budget 31"),
     // Forms that aren't built.
     (r"{\end{tikzpicture}}", 9, "Unbuilt 2"),
     (r"\begin{scope}", 9, "Unbuilt 1"),

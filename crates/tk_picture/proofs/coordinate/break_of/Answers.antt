@@ -1,4 +1,4 @@
-use Rattle.std.proofs.Common.{rules, arith, ap, sym, ◌∙◌}
+use Rattle.std.proofs.Common.{rules, ap, sym, ◌∙◌}
 use Rattle.tk_expand.specs.Reading.{place_of}
 use Rattle.tk_picture.proofs.Closers.{closer_opens, closer_closes, closer_found, closer_passes, no_closer}
 use Rattle.tk_picture.proofs.coordinate.break_of.Goals as goal

@@ -62,12 +62,14 @@ commands-loop-first-preserved t c =
     let less = command_less (given_to c.args.self.now) (given_to c.loop-first.self) same (opener_of c.args.opener) (configuration_of c.args.self.now [] c.args.input.now) (configuration_of c.loop-first.self [] c.loop-first.input) c.loop-first.invariant.told (lookahead_of c.in_ok-first.first c.ahead.new.self [] c.ahead.new.input) (c.in_ok-first.ensures.gives []) (given_to c.ahead.new.self) later (configuration_of c.command_at.new.self [] c.command_at.new.input) (rw c.in-GoesOn.is at c.in_ok-command_at.ensures.gives) in
     let kept = ap (λ (g : Given). g.budget) same in
     let now = ap (λ (g : Given). g.budget) (c.in_ok-command_at.ensures.kept.given ∙ later) in
+    let lists = ap (λ (d : Drawer). d.state.lists) c.in_ok-first.ensures.pays in
     let outer = ap (λ (d : Drawer). d.state.levels.outer) c.in_ok-first.ensures.pays in
     record {
       told = commands_more (given_to c.args.self.now) (given_to c.loop-first.self) same (opener_of c.args.opener) (configuration_of c.args.self.now [] c.args.input.now) (configuration_of c.loop-first.self [] c.loop-first.input) c.loop-first.invariant.told (lookahead_of c.in_ok-first.first c.ahead.new.self [] c.ahead.new.input) (c.in_ok-first.ensures.gives []) (given_to c.ahead.new.self) later (configuration_of c.command_at.new.self [] c.command_at.new.input) (rw c.in-GoesOn.is at c.in_ok-command_at.ensures.gives);
       sound = c.in_ok-command_at.ensures.sound;
       kept = record {
         given = c.in_ok-command_at.ensures.kept.given ∙ later;
+        lists = c.in_ok-command_at.ensures.kept.lists ∙ lists ∙ c.loop-first.invariant.kept.lists;
         outer = c.in_ok-command_at.ensures.kept.outer ∙ outer ∙ c.loop-first.invariant.kept.outer;
       };
       work = omega (arith, less, kept, now, c.loop-first.invariant.work);

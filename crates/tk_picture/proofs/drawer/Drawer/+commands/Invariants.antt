@@ -1,4 +1,4 @@
-use Rattle.std.proofs.Common.{◌≡◌, ℕ, ◌+◌, ◌-◌, ◌*◌, ◌≤◌, [], length}
+use Rattle.std.proofs.Common.{◌≡◌, ◌+◌, ◌-◌, ◌*◌, ◌≤◌, [], length}
 use Rattle.std.specs.Option.{option_to_list}
 use Rattle.tk_picture.specs.Commands.{block, commands}
 use Rattle.tk_picture.specs.Views.{given_to, configuration_of, opener_of, IsSound, KeepsGiven}

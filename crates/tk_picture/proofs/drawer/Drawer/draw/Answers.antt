@@ -1,8 +1,6 @@
 use Rattle.std.proofs.Common.{rules, []}
-use Rattle.tk_keys.specs.State.{env_of}
-use Rattle.tk_picture.specs.Commands.{commands}
-use Rattle.tk_picture.specs.Views.{given_to, picture_of, configuration_of, progress_of}
-use Rattle.tk_picture.proofs.Drawing.{drawn_alike, path_is_drawn}
+use Rattle.tk_picture.specs.Views.{picture_of}
+use Rattle.tk_picture.proofs.Drawing.{drawn_alike}
 use Rattle.tk_picture.proofs.drawer.Drawer.draw.Goals as goal
 
 pub returns-clause-gives : goal.returns-clause-gives

@@ -1,4 +1,4 @@
-use Rattle.std.proofs.Common.{rules, ap, ◌∙◌, arith}
+use Rattle.std.proofs.Common.{rules, ap, arith}
 use Rattle.tk_picture.specs.declared.drawer.Drawer.{Drawer}
 use Rattle.tk_picture.specs.Views.{given_to, configuration_of, progress_of}
 use Rattle.tk_picture.proofs.Loops.{part_left, operations_more, operations_finish, operations_fail}
