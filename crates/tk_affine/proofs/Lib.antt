@@ -1,0 +1,5 @@
+pub mod Wide
+pub mod Lengths
+pub mod Regular
+pub mod Neutral
+pub mod Folds

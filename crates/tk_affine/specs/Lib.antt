@@ -1,0 +1,4 @@
+pub mod Images
+pub mod Steps
+pub mod Inverses
+pub mod Directions
