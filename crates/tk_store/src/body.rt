@@ -9,22 +9,30 @@ ghost use Rattle.tk_store.specs.Kept.{kept, first_kept};
 use std::alloc::{AllocError, Global};
 use std::marker::Model;
 use std::rc::RcSlice;
+use std::slice;
 use tk_token::{Code, Fault, Kind, Refusal, Tok};
 
-/// A list of tokens. Its copies share the tokens in memory.
+/// A list of tokens. Its copies share the tokens in memory; a single token takes none.
 #[derive(Drop)]
 pub struct Body {
-    toks: RcSlice<Tok>,
+    toks: Toks,
+}
+
+/// The tokens of a body.
+#[derive(Drop)]
+enum Toks {
+    One(Tok),
+    Shared(RcSlice<Tok>),
 }
 
 impl Model for Body {
     ghost use Rattle.std.specs.Prelude.{List};
-    ghost use Rattle.std.specs.Rc.{rc_slice_items};
     ghost use Rattle.tk_token.specs.declared.Tok.{Tok};
+    ghost use Rattle.tk_store.specs.Items.{items_of};
 
     ghost Value = { List Tok };
 
-    ghost view = { λ body. rc_slice_items body.toks };
+    ghost view = { λ body. items_of body.toks };
 }
 
 impl Body {
@@ -32,18 +40,23 @@ impl Body {
     pub fn new(alloc: Global, list: &[Tok]) -> Result<Body, AllocError>
         ensures { IfOk result (λ body. body ≡ list.now) }
     {
-        Ok(Body {
-            toks: RcSlice::from_slice(alloc, list)?,
-        })
+        let toks = match list {
+            [tok] => Toks::One(*tok),
+            _ => Toks::Shared(RcSlice::from_slice(alloc, list)?),
+        };
+        Ok(Body { toks })
     }
 
     /// The tokens of the vector, which stay where they are in memory.
     pub fn from_vec(toks: Vec<Tok>) -> Result<Body, AllocError>
         ensures { IfOk result (λ body. body ≡ toks.items) }
     {
-        Ok(Body {
-            toks: RcSlice::from_vec(toks)?,
-        })
+        if let [tok] = toks.as_slice() {
+            let toks = Toks::One(*tok);
+            return Ok(Body { toks });
+        }
+        let toks = Toks::Shared(RcSlice::from_vec(toks)?);
+        Ok(Body { toks })
     }
 
     /// The body of a macro with so many arguments, as it is written between its braces. `#1` is the place of the first
@@ -67,16 +80,21 @@ impl Body {
     pub fn copy(&self) -> Result<Body, AllocError>
         ensures { IfOk result (λ body. body ≡ self.now) }
     {
-        Ok(Body {
-            toks: self.toks.clone()?,
-        })
+        let toks = match &self.toks {
+            Toks::One(tok) => Toks::One(*tok),
+            Toks::Shared(toks) => Toks::Shared(toks.clone()?),
+        };
+        Ok(Body { toks })
     }
 
     /// The tokens, in order.
     pub fn as_slice(&self) -> &[Tok]
         ensures { result.now ≡ self.now }
     {
-        self.toks.as_slice()
+        match &self.toks {
+            Toks::One(tok) => slice::from_ref(tok),
+            Toks::Shared(toks) => toks.as_slice(),
+        }
     }
 }
 
