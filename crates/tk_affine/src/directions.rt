@@ -2,10 +2,9 @@
 
 ghost use Rattle.std.specs.Prelude.{◌≡◌, ◌≤◌, ◌^◌, unsigned_abs};
 ghost use Rattle.tk_num.specs.Number.{IsScaled};
-ghost use Rattle.tk_affine.specs.Directions.{whole_length, part_of, turn_along};
+ghost use Rattle.tk_affine.specs.Directions.{whole_length, component_of, turn_along};
 
 use crate::Matrix;
-use crate::numbers::number;
 use crate::steps::{identity, turned};
 use tk_num::Scaled;
 
@@ -23,13 +22,13 @@ fn whole_length(x: i64, y: i64) -> u64
 }
 
 /// A part of a length, in 65536ths.
-fn part_of(part: i64, length: u64) -> Scaled
+fn component_of(part: i64, length: u64) -> Scaled
     requires some { 1 ≤ length }
     requires part { unsigned_abs part ≤ length }
     requires most { length ≤ 2 ^ 41 }
-    ensures { result ≡ part_of part length }
+    ensures { result ≡ component_of part length }
 {
-    number(65536 * part / length as i64)
+    Scaled::within(65536 * part / length as i64)
 }
 
 /// The turn that takes (1,0) into the direction of (dx,dy): with n the root of dx*dx + dy*dy, cut downward, it is
@@ -47,5 +46,5 @@ pub fn along(dx: i64, dy: i64) -> Matrix
     if length == 0 {
         return identity();
     }
-    turned(part_of(dx, length), part_of(dy, length))
+    turned(component_of(dx, length), component_of(dy, length))
 }

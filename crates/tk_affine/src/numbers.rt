@@ -8,17 +8,6 @@ use crate::AffFault;
 use tk_item::Point;
 use tk_num::Scaled;
 
-/// The number of so many 65536ths, which are in range.
-pub fn number(sp: i64) -> Scaled
-    requires { IsScaled sp }
-    ensures { result ≡ sp }
-{
-    match Scaled::new(sp) {
-        Some(number) => number,
-        None => unreachable!(),
-    }
-}
-
 /// The number of so many 65536ths; None where it is out of range.
 fn in_range(sp: i128) -> Option<Scaled>
     ensures { result ≡ (if is_scaled sp then Some sp else None) }

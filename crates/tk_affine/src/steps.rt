@@ -4,7 +4,6 @@ ghost use Rattle.std.specs.Prelude.{◌≡◌, pos, neg_ℤ};
 ghost use Rattle.tk_affine.specs.Steps.{unmoved, shifted, linear, turned, step_matrix, composed, with_step};
 
 use crate::images::{apply, apply_vector};
-use crate::numbers::number;
 use crate::{AffFault, Matrix, Step};
 use tk_item::Point;
 use tk_num::{Scaled, cos, sin};
@@ -13,14 +12,7 @@ use tk_num::{Scaled, cos, sin};
 fn one() -> Scaled
     ensures { result ≡ pos 65536 }
 {
-    number(65536)
-}
-
-/// The same number with the other sign.
-fn negative(x: Scaled) -> Scaled
-    ensures { result ≡ neg_ℤ x }
-{
-    number(-x.sp())
+    Scaled::within(65536)
 }
 
 /// A shift alone.
@@ -29,8 +21,8 @@ fn shifted(tx: Scaled, ty: Scaled) -> Matrix
 {
     Matrix {
         a: one(),
-        b: number(0),
-        c: number(0),
+        b: Scaled::within(0),
+        c: Scaled::within(0),
         d: one(),
         tx,
         ty,
@@ -46,8 +38,8 @@ fn linear(a: Scaled, b: Scaled, c: Scaled, d: Scaled) -> Matrix
         b,
         c,
         d,
-        tx: number(0),
-        ty: number(0),
+        tx: Scaled::within(0),
+        ty: Scaled::within(0),
     }
 }
 
@@ -55,14 +47,14 @@ fn linear(a: Scaled, b: Scaled, c: Scaled, d: Scaled) -> Matrix
 pub(crate) fn turned(x: Scaled, y: Scaled) -> Matrix
     ensures { result ≡ turned x y }
 {
-    linear(x, y, negative(y), x)
+    linear(x, y, y.negated(), x)
 }
 
 /// The matrix under which each point is its own image: (65536, 0, 0, 65536, 0, 0).
 pub fn identity() -> Matrix
     ensures gives { result ≡ unmoved }
 {
-    shifted(number(0), number(0))
+    shifted(Scaled::within(0), Scaled::within(0))
 }
 
 /// What one step does.
@@ -72,7 +64,7 @@ fn matrix_of_step(step: Step) -> Matrix
     match step {
         Step::Shift(x, y) => shifted(x, y),
         Step::Rotate(angle) => turned(cos(angle), sin(angle)),
-        Step::Scale(x, y) => linear(x, number(0), number(0), y),
+        Step::Scale(x, y) => linear(x, Scaled::within(0), Scaled::within(0), y),
         Step::Slant(x, y) => linear(one(), y, x, one()),
         Step::Cm(m) => m,
     }

@@ -2,7 +2,6 @@
 
 use crate::{Command, Definition, read_definition};
 use std::alloc::{AllocError, Global};
-use std::process::Abort;
 use std::test::Fail;
 use tk_expand::{Input, Units};
 use tk_store::{Body, Store};
@@ -102,18 +101,45 @@ fn command(names: &Names, kind: Kind) -> Option<Command> {
 }
 
 fn show(text: &mut String, names: &Names, kind: Kind) -> Result<(), AllocError> {
-    match kind {
-        Kind::Char(character) => text.push(character),
-        Kind::Word(word) => {
-            text.push('\\')?;
-            text.push_str(names.word(word).unwrap_or("?"))
-        }
-        Kind::Open => text.push('{'),
-        Kind::Close => text.push('}'),
-        Kind::Param => text.push('#'),
-        Kind::Space => text.push(' '),
-        _ => text.push('?'),
+    if let Kind::Word(word) = kind {
+        text.push('\\')?;
+        return text.push_str(names.word(word).unwrap_or("?"));
     }
+    text.push(match kind {
+        Kind::Char(character) => character,
+        Kind::Open => '{',
+        Kind::Close => '}',
+        Kind::Param => '#',
+        Kind::Space => ' ',
+        _ => '?',
+    })
+}
+
+/// Makes the definition that stands next, or shows the token: whether there is one.
+fn step(
+    names: &Names,
+    store: &mut Store,
+    input: &mut Input,
+    units: &mut Units,
+    text: &mut String,
+) -> Result<bool, Refusal> {
+    let Some(tok) = input.next(store, units)? else {
+        return Ok(false);
+    };
+    match command(names, tok.kind) {
+        Some(command) => {
+            let Definition { word, value } = read_definition(
+                *text.allocator(),
+                command,
+                input,
+                store,
+                units,
+            )?;
+            store.set_macro(word, value)?;
+        }
+        None => show(text, names, tok.kind)?,
+    }
+    Ok(true)
 }
 
 /// Makes the definitions of a list, and shows its other tokens once its calls are replaced.
@@ -121,15 +147,10 @@ fn run(alloc: Global, names: &Names, toks: Vec<Tok>, units: &mut Units) -> Resul
     let mut store = Store::new(alloc)?;
     let mut input = Input::new(alloc, Body::from_vec(toks)?, 777)?;
     let mut text = String::new(alloc);
-    while let Some(tok) = input.next(&store, units)? {
-        let Some(command) = command(names, tok.kind) else {
-            show(&mut text, names, tok.kind)?;
-            continue;
-        };
-        let Definition { word, value } = read_definition(
-            alloc, command, &mut input, &store, units,
-        )?;
-        store.set_macro(word, value)?;
+    for _ in 0..1_000 {
+        if !step(names, &mut store, &mut input, units, &mut text)? {
+            break;
+        }
     }
     Ok(text)
 }
@@ -156,53 +177,56 @@ fn fault_shown(alloc: Global, fault: Fault) -> Result<String, Fail> {
     Ok(format!(in alloc; "{name} {at}")?)
 }
 
-fn lexed(rt: &impl Abort, alloc: Global, text: &str) -> Result<Lexed, Fail> {
+/// The tokens of a short text.
+fn lexed(alloc: Global, text: &str) -> Option<Lexed> {
     let bytes = text.as_bytes();
-    assert!(rt; bytes.len() <= 1_000);
-    match lex(alloc, bytes) {
-        Ok(lexed) => Ok(lexed),
-        Err(_) => Err("no tokens".into()),
+    if bytes.len() > 1_000 {
+        return None;
     }
+    lex(alloc, bytes).ok()
+}
+
+/// Whether the text of a row shows what it wants.
+fn is_shown_so(alloc: Global, row: &(&str, usize, u64, u64, &str)) -> Result<bool, Fail> {
+    let (text, kept, budget, used, wanted) = *row;
+    let Lexed { mut toks, names } = lexed(alloc, text).ok_or("no tokens")?;
+    toks.truncate(kept);
+    let mut units = Units { used: 0, budget };
+    let shown = answer(alloc, run(alloc, &names, toks, &mut units))?;
+    Ok(shown.as_str() == wanted && units.used == used)
 }
 
 #[test]
 fn texts_show_their_definitions(rt: HostRuntime) -> Result<(), Fail> {
-    let alloc = rt.alloc();
-    for (text, kept, budget, used, wanted) in &DEFINED {
-        let Lexed { mut toks, names } = lexed(&rt, alloc, text)?;
-        toks.truncate(*kept);
-        let mut units = Units {
-            used: 0,
-            budget: *budget,
-        };
-        let shown = answer(alloc, run(alloc, &names, toks, &mut units))?;
-        assert_eq!(rt; shown.as_str(), *wanted, "{text}");
-        assert_eq!(rt; units.used, *used, "{text}");
+    for row in &DEFINED {
+        assert!(rt; is_shown_so(rt.alloc(), row)?, "{}", row.0);
     }
     Ok(())
 }
 
-#[test]
-fn a_definition_has_its_parts(rt: HostRuntime) -> Result<(), Fail> {
-    let alloc = rt.alloc();
-    let Lexed { toks, .. } = lexed(&rt, alloc, r"\f#1{a#1##}b")?;
-    let mut input = Input::new(alloc, Body::from_vec(toks)?, 12)?;
+/// The definition at the start of a list.
+fn defined(alloc: Global, input: &mut Input) -> Result<Definition, Fail> {
     let store = Store::new(alloc)?;
     let mut units = Units { used: 0, budget: 0 };
-    let Ok(definition) = read_definition(alloc, Command::Def, &mut input, &store, &mut units) else {
-        return Err("no definition".into());
-    };
-    assert_eq!(rt; definition.word, 0);
-    assert_eq!(rt; definition.value.args, 1);
+    let found = read_definition(alloc, Command::Def, input, &store, &mut units);
+    Ok(found.ok().ok_or("no definition")?)
+}
+
+/// Whether the parts of a definition are those of `\f#1{a#1##}`.
+fn has_its_parts(definition: &Definition) -> bool {
+    let Definition { word, value } = definition;
     // A parameter has the place of its `#`, and `##` that of the first one.
     let body = [(Kind::Char('a'), 5), (Kind::Arg(1), 6), (Kind::Param, 8)];
-    assert_eq!(rt; definition.value.body.as_slice().len(), body.len());
-    for (tok, (kind, at)) in definition.value.body.as_slice().iter().zip(body.iter()) {
-        assert_eq!(rt; tok.kind, *kind);
-        assert_eq!(rt; tok.at, *at);
-    }
-    let behind = input.raw();
-    assert!(rt; behind.is_some_and(|tok| tok.at == 11));
-    assert_eq!(rt; input.raw(), None);
+    let found = value.body.as_slice().iter().map(|tok| (tok.kind, tok.at));
+    *word == 0 && value.args == 1 && found.eq(body.into_iter())
+}
+
+#[test]
+fn a_definition_has_its_parts(rt: HostRuntime) -> Result<(), Fail> {
+    let toks = lexed(rt.alloc(), r"\f#1{a#1##}b").ok_or("no tokens")?.toks;
+    let mut input = Input::new(rt.alloc(), Body::from_vec(toks)?, 12)?;
+    assert!(rt; has_its_parts(&defined(rt.alloc(), &mut input)?));
+    let behind = input.raw().map(|tok| tok.at);
+    assert!(rt; behind == Some(11) && input.raw() == None);
     Ok(())
 }

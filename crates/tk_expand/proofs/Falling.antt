@@ -1,5 +1,5 @@
 -- Expansion spends units or takes tokens: the work that is left never rises, so that no step is cut short.
-use Rattle.std.specs.Prelude.{◌≡◌, ℕ, suc, ◌+◌, ◌-◌, ◌<◌, ◌≤◌, Bool, true, false, nat_lt, if◌then◌else◌, List, [], ◌∷◌, length, Option, Some, None, Ok, Err, IfOk}
+use Rattle.std.specs.Prelude.{◌≡◌, ℕ, ◌+◌, ◌<◌, ◌≤◌, Bool, true, false, nat_lt, if◌then◌else◌, List, [], ◌∷◌, length, Option, Some, None, Ok, Err, IfOk}
 use Rattle.std.specs.Option.{option_to_list}
 use Rattle.std.proofs.Common.{refl, ◌∙◌, ap, arith, length-append}
 use Rattle.std.proofs.lemmas.Bool.{ltb-false}
@@ -16,8 +16,8 @@ use Rattle.tk_token.proofs.Fixpoint.{kept, independent, unbounded}
 use Rattle.tk_store.specs.declared.Macro.{Macro}
 use Rattle.tk_store.specs.Levels.{Macros}
 use Rattle.tk_expand.specs.Arguments.{call_text}
-use Rattle.tk_expand.specs.Expand.{pay, Stream, stream, with_rest, work, called_by, replaced, front_token, front_list, front_step, front, full_list, full_step, full}
-use Rattle.tk_expand.specs.Reading.{Next, taken, first_taken, is_there, place_of, expect, next, next_solid_step, next_solid, after_next, after_letters}
+use Rattle.tk_expand.specs.Expand.{pay, Stream, with_rest, work, called_by, replaced, front_token, front_list, front_step, front, full_list, full_step, full}
+use Rattle.tk_expand.specs.Reading.{Next, first_taken, is_there, place_of, expect, next, next_solid_step, next_solid, after_next, after_letters}
 use Rattle.tk_expand.proofs.Lengths.{text_rest}
 
 -- a payment that was made is within the budget

@@ -1,11 +1,11 @@
 -- What an expansion leaves.
-use Rattle.std.specs.Prelude.{◌≡◌, ℕ, ◌&&◌, Bool, true, false, List, [], ◌∷◌, Option, Some, None, Ok, Err, IfOk}
+use Rattle.std.specs.Prelude.{◌≡◌, ℕ, ◌&&◌, Bool, true, List, [], ◌∷◌, Option, Some, None, Ok, Err, IfOk}
 use Rattle.std.specs.Option.{is_none}
 use Rattle.std.specs.List.{list_all}
 use Rattle.std.proofs.Common.{refl, ◌∙◌, ap, sym, subst}
 use Rattle.tk_token.specs.declared.Tok.{Tok}
 use Rattle.tk_token.specs.declared.Code.TheVariants.{Budget}
-use Rattle.tk_token.specs.Answers.{Answer, ◌>>=◌, fault}
+use Rattle.tk_token.specs.Answers.{Answer, fault}
 use Rattle.tk_token.proofs.Answering.{then_holds, then_is}
 use Rattle.tk_token.proofs.Fixpoint.{kept}
 use Rattle.tk_store.specs.declared.Macro.{Macro}

@@ -1,5 +1,5 @@
 -- One turn of an expansion.
-use Rattle.std.proofs.Common.{◌≡◌, ℕ, ◌+◌, ◌-◌, ◌<◌, List, [], ◌∷◌, ◌++◌, length, Option, Some, None, Ok, Err, refl, sym, ap, subst, ◌∙◌, append_assoc, arith}
+use Rattle.std.proofs.Common.{◌≡◌, ℕ, ◌<◌, List, [], ◌∷◌, ◌++◌, length, Option, Some, None, Ok, Err, refl, sym, ap, ◌∙◌, append_assoc, arith}
 use Rattle.std.proofs.lemmas.List.{append-nil}
 use Rattle.tk_token.specs.declared.Kind.{Kind}
 use Rattle.tk_token.specs.declared.Kind.TheVariants.{Char, Word, Symbol, Open, Close, Param, Arg, Space}
@@ -13,7 +13,7 @@ use Rattle.tk_store.specs.Levels.{Macros}
 use Rattle.tk_expand.specs.Unread.{Unread, unread}
 use Rattle.tk_expand.specs.Expand.{Stream, stream, with_rest, work, called_by, replaced, front_token, front_list, front, full_list, full}
 use Rattle.tk_expand.specs.Reading.{Next, taken, first_taken, next}
-use Rattle.tk_expand.proofs.Falling.{Spends, call_less, replaced_spends, front_is, full_is}
+use Rattle.tk_expand.proofs.Falling.{Spends, replaced_spends, front_is, full_is}
 use Rattle.tk_expand.proofs.Finished.{front_ends, front_stops}
 
 -- what is no control word calls nothing

@@ -1,15 +1,15 @@
 -- Where the tokens and the faults stand of what is read through expansion.
-use Rattle.std.specs.Prelude.{◌≡◌, ℕ, suc, ◌+◌, ◌<◌, ◌≤◌, Bool, true, false, if◌then◌else◌, List, [], ◌∷◌, length, Option, Some, None, Ok, Err}
-use Rattle.std.proofs.Common.{refl, sym, subst, arith, ◌∙◌}
+use Rattle.std.specs.Prelude.{◌≡◌, ℕ, suc, Bool, true, false, if◌then◌else◌, List, [], ◌∷◌, Option, Some, None, Ok}
+use Rattle.std.proofs.Common.{refl, sym, subst, arith}
 use Rattle.tk_token.specs.declared.Code.{Code}
 use Rattle.tk_token.specs.declared.Kind.{Kind}
 use Rattle.tk_token.specs.declared.Tok.{Tok}
-use Rattle.tk_token.specs.Answers.{Answer, ◌>>=◌, fault}
+use Rattle.tk_token.specs.Answers.{Answer, fault}
 use Rattle.tk_token.specs.Kinds.{is_char, is_space}
 use Rattle.tk_store.specs.Levels.{Macros}
-use Rattle.tk_expand.specs.Expand.{Stream, with_rest, work, front}
-use Rattle.tk_expand.specs.Reading.{Next, taken, first_taken, is_there, place_of, expect, next, next_solid, after_next, after_letters}
-use Rattle.tk_expand.proofs.Falling.{Takes, LessLeft, one_there, next_takes, next_solid_takes, solid_is, after_next_less}
+use Rattle.tk_expand.specs.Expand.{Stream, work, front}
+use Rattle.tk_expand.specs.Reading.{Next, first_taken, is_there, place_of, expect, next, next_solid, after_next, after_letters}
+use Rattle.tk_expand.proofs.Falling.{Takes, LessLeft, one_there, next_takes, solid_is, after_next_less}
 use Rattle.tk_expand.proofs.Places.{StandAt, Stands, then_stands, also, StreamAt, BodiesAt, by_work, front_at}
 
 module _ (P : ℕ → Type 0) where

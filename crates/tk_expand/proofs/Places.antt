@@ -1,5 +1,5 @@
 -- Where tokens and faults of an expansion stand: at places of the list and of the bodies.
-use Rattle.std.specs.Prelude.{◌≡◌, ℕ, zero, suc, ◌+◌, ◌-◌, ◌<◌, ◌≤◌, Bool, true, false, nat_lt, if◌then◌else◌, ◌==◌, ◌&&◌, List, [], ◌∷◌, ◌++◌, length, drop, slice_get, unwrap_or, Option, Some, None, Ok, Err, IfSome, IfOk, MatchResult}
+use Rattle.std.specs.Prelude.{◌≡◌, ℕ, zero, suc, ◌+◌, ◌-◌, ◌<◌, Bool, true, false, nat_lt, if◌then◌else◌, List, [], ◌∷◌, ◌++◌, length, drop, slice_get, unwrap_or, Option, Some, None, Ok, Err, IfSome, IfOk, MatchResult}
 use Rattle.std.specs.FinMap as map
 use Rattle.std.specs.List.{AllByRecursion, prefix_len}
 use Rattle.std.proofs.Common.{refl, sym, ap, subst, arith}
@@ -8,7 +8,7 @@ use Rattle.tk_token.specs.declared.Kind.TheVariants.{Char, Word, Symbol, Open, C
 use Rattle.tk_token.specs.declared.Tok.{Tok}
 use Rattle.tk_token.specs.declared.Code.TheVariants.{MacroArg, Budget}
 use Rattle.tk_token.specs.Answers.{Answer, ◌>>=◌, fault, or_fault}
-use Rattle.tk_token.specs.Groups.{Cut, cut, group_of}
+use Rattle.tk_token.specs.Groups.{Cut}
 use Rattle.tk_token.specs.Spaces.{is_space_token, after_spaces}
 use Rattle.tk_token.proofs.Outside.{group_keeps}
 use Rattle.tk_store.specs.declared.Macro.{Macro}

@@ -393,60 +393,90 @@ fn given(
     }
 }
 
+/// Whether the calls of a row are replaced as it wants.
+fn is_expanded_so(
+    alloc: Global,
+    store: &Store,
+    row: &(&str, u64, u64, &str),
+) -> Result<bool, Fail> {
+    let (text, budget, used, wanted) = *row;
+    let mut units = Units { used: 0, budget };
+    let list = toks(alloc, text, 0)?;
+    let still = is_expanded(&list, store);
+    let answer = list_shown(alloc, expand_all(alloc, list, store, &mut units))?;
+    let is_same = answer.as_str() == text;
+    Ok(answer.as_str() == wanted && units.used == used && still == is_same)
+}
+
+/// Whether the call of a row reads as it wants.
+fn is_read_so(
+    alloc: Global,
+    store: &Store,
+    row: &(&str, &str, &str, u64, &str),
+) -> Result<bool, Fail> {
+    let (text, call, wanted, used, rest) = *row;
+    let mut input = input(alloc, text)?;
+    let mut units = Units {
+        used: 1,
+        budget: 99,
+    };
+    let answer = given(alloc, call, &mut input, store, &mut units)?;
+    let is_given = answer.as_str() == wanted && input.end() == 77;
+    let left = rest_of(alloc, input)?;
+    Ok(is_given && left.as_str() == rest && units.used == used.saturating_add(1))
+}
+
+/// Whether the text of a row is paid for as it wants.
+fn is_paid_so(alloc: Global, row: &(&str, &str, u64, u64, &str)) -> Result<bool, Fail> {
+    let (arguments, body, budget, used, wanted) = *row;
+    let mut units = Units { used: 0, budget };
+    let arguments = lists(alloc, arguments)?;
+    let Ok(body) = Body::parse(alloc, 2, &toks(alloc, body, 0)?) else {
+        return Err("no body".into());
+    };
+    let given = paid_text(alloc, &arguments, &body, 5, &mut units);
+    let text = text_shown(alloc, given)?;
+    Ok(text.as_str() == wanted && units.used == used)
+}
+
 #[test]
 fn calls_are_replaced_until_none_is_left(rt: HostRuntime) -> Result<(), Fail> {
-    let alloc = rt.alloc();
-    let store = store(alloc)?;
-    for (text, budget, used, wanted) in &EXPANDED {
-        let mut units = Units {
-            used: 0,
-            budget: *budget,
-        };
-        let list = toks(alloc, text, 0)?;
-        let still = is_expanded(&list, &store);
-        let answer = list_shown(alloc, expand_all(alloc, list, &store, &mut units))?;
-        assert_eq!(rt; answer.as_str(), *wanted, "{text}");
-        assert_eq!(rt; units.used, *used, "{text}");
-        assert_eq!(rt; still, answer.as_str() == *text, "{text}");
+    let store = store(rt.alloc())?;
+    for row in &EXPANDED {
+        assert!(rt; is_expanded_so(rt.alloc(), &store, row)?, "{}", row.0);
     }
     Ok(())
 }
 
 #[test]
 fn what_stands_next_is_read(rt: HostRuntime) -> Result<(), Fail> {
-    let alloc = rt.alloc();
-    let store = store(alloc)?;
-    for (text, call, wanted, used, rest) in &READ {
-        let mut input = input(alloc, text)?;
-        let mut units = Units {
-            used: 1,
-            budget: 99,
-        };
-        let answer = given(alloc, call, &mut input, &store, &mut units)?;
-        assert_eq!(rt; answer.as_str(), *wanted, "{text}");
-        assert_eq!(rt; units.used, used.saturating_add(1), "{text}");
-        assert_eq!(rt; input.end(), 77);
-        assert_eq!(rt; rest_of(alloc, input)?.as_str(), *rest, "{text}");
+    let store = store(rt.alloc())?;
+    for row in &READ {
+        assert!(rt;
+            is_read_so(rt.alloc(), &store, row)?,
+            "{}, {}",
+            row.0,
+            row.1
+        );
     }
     Ok(())
 }
 
 #[test]
 fn texts_are_paid_for(rt: HostRuntime) -> Result<(), Fail> {
-    let alloc = rt.alloc();
-    for (arguments, body, budget, used, wanted) in &PAID {
-        let Ok(body) = Body::parse(alloc, 2, &toks(alloc, body, 0)?) else {
-            return Err("no body".into());
-        };
-        let mut units = Units {
-            used: 0,
-            budget: *budget,
-        };
-        let text = paid_text(alloc, &lists(alloc, arguments)?, &body, 5, &mut units);
-        assert_eq!(rt; text_shown(alloc, text)?.as_str(), *wanted);
-        assert_eq!(rt; units.used, *used, "{wanted}");
+    for row in &PAID {
+        assert!(rt; is_paid_so(rt.alloc(), row)?, "{}", row.4);
     }
     Ok(())
+}
+
+/// Whether a list is asked about its first token as it is.
+fn is_asked(input: &Input) -> bool {
+    let first = input.first();
+    let is_met = input.expect(Code::Unbuilt, first, 'a').is_ok();
+    let is_missed = input.expect(Code::Unbuilt, None, 'a').is_err();
+    let is_found = is_there(first, 'a') && !is_there(first, 'b') && !is_there(None, 'a');
+    is_met && is_missed && is_found && input.place(first) == 0 && input.place(None) == 77
 }
 
 #[test]
@@ -455,17 +485,10 @@ fn a_cost_is_paid_up_to_the_budget(rt: HostRuntime) -> Result<(), Fail> {
         used: 18_446_744_073_709_551_614,
         budget: 18_446_744_073_709_551_615,
     };
-    assert!(rt; units.pay(2, 3).is_err());
-    assert!(rt; units.pay(1, 3).is_ok());
-    assert!(rt; units.pay(0, 3).is_ok());
-    assert!(rt; units.pay(1, 3).is_err());
-    assert_eq!(rt; units.used, 18_446_744_073_709_551_615);
-    let input = input(rt.alloc(), "a")?;
-    let first = input.first();
-    assert!(rt; input.expect(Code::Unbuilt, first, 'a').is_ok());
-    assert!(rt; input.expect(Code::Unbuilt, None, 'a').is_err());
-    assert!(rt; is_there(first, 'a') && !is_there(first, 'b') && !is_there(None, 'a'));
-    assert_eq!(rt; input.place(first), 0);
-    assert_eq!(rt; input.place(None), 77);
+    for (cost, is_paid) in [(2, false), (1, true), (0, true), (1, false)] {
+        assert!(rt; units.pay(cost, 3).is_ok() == is_paid, "{cost}");
+    }
+    assert!(rt; units.used == units.budget);
+    assert!(rt; is_asked(&input(rt.alloc(), "a")?));
     Ok(())
 }

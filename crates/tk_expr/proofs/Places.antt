@@ -42,6 +42,7 @@ use Rattle.tk_expr.specs.Values.{placed}
 use Rattle.tk_expr.specs.Machine.{Found, State, signed_found, applied, powered, multiplied, added, compared, conjoined, disjoined, product_waits, sum_waits, comparison_waits, waits, waiting_or_same, Closed, choice_found, closed, closed_behind, wanted_in, with_frame, most_found, bracket_ends, at_right, bracket_goes_on, at_comma, at_colon, to_mode, sign_exponent, sign_operand, begin, ordered, is_half, half, named, operator, comparison, after, dot, measured, number, step_in, step, start, run, operand, value_in, finish_behind, finish}
 use Rattle.tk_expr.specs.Pieces.{Lump, Letters, Alone, with_letter, with_token, lumps_of, piece_of, pieces_of}
 use Rattle.tk_expr.specs.Evaluated.{evaluated}
+use Rattle.tk_expr.specs.Evaluates.{Evaluation}
 use Rattle.tk_token.specs.Places.{end_of}
 use Rattle.tk_expr.specs.Places.{IsPlaceOf}
 use Rattle.tk_expr.specs.Pairs.{part_value, plane, radii, polar, by_colon, by_comma, paired, length_along, vector_of}
@@ -55,6 +56,10 @@ module _ {A : Type 0} where
   holds_if : (P : A → Type 0) (F : Fault → Type 0) (b : Bool) (m n : Answer A) → Holds P F m → Holds P F n → Holds P F (cond b m n)
   holds_if P F true m n h k = h
   holds_if P F false m n h k = k
+
+  from_fault : (P : A → Type 0) (F : Fault → Type 0) (m : Answer A) → ((a : A) → P a) → IfErr m F → Holds P F m
+  from_fault P F (Ok a) h k = h a
+  from_fault P F (Err f) h k = k
 
   only_fault : (P : A → Type 0) (F : Fault → Type 0) (m : Answer A) → Holds P F m → IfErr m F
   only_fault P F (Ok a) h = tt
@@ -476,38 +481,39 @@ module _ (Good : ℕ → Type 0) where
   unfolding unbraced
   unbraced_within ts h = or_within (contents (after_spaces ts)) ts (contents_within (after_spaces ts) (dropped (prefix_len is_space_token ts) ts h)) h
 
-  module _ (font : FontUnits) (at : ℕ) (here : Good at) where
-    value_within : (ts : List Tok) → Within ts → Fine (part_value evaluated font at ts)
-    value_within ts h = evaluated_fine font at (unbraced ts) here (unbraced_within ts h)
+  -- by an evaluation whose faults stand so
+  module _ (ev : Evaluation) (font : FontUnits) (at : ℕ) (here : Good at) (ev_fine : (ts : List Tok) → Within ts → Fine (ev font at ts)) where
+    value_within : (ts : List Tok) → Within ts → Fine (part_value ev font at ts)
+    value_within ts h = ev_fine (unbraced ts) (unbraced_within ts h)
 
-    plane_within : (front back : List Tok) → Within front → Within back → Fine (plane evaluated font at front back)
+    plane_within : (front back : List Tok) → Within front → Within back → Fine (plane ev font at front back)
     unfolding plane
     plane_within front back h k =
         holds_if (λ _. Unit {0}) Early (is_some (before_char characters.comma back)) _ _ here
-        (fine_then (part_value evaluated font at front) _ (value_within front h)
-        (λ x. fine_then (part_value evaluated font at back) _ (value_within back k) (λ y. tt)))
+        (fine_then (part_value ev font at front) _ (value_within front h)
+        (λ x. fine_then (part_value ev font at back) _ (value_within back k) (λ y. tt)))
 
-    radii_within : (angle : ℤ) (back : List Tok) (found : Option Cut) → Within back → CutFine found → Fine (radii evaluated font at angle back found)
-    radii_within angle back None h k = fine_then (part_value evaluated font at back) _ (value_within back h) (λ r. tt)
+    radii_within : (angle : ℤ) (back : List Tok) (found : Option Cut) → Within back → CutFine found → Fine (radii ev font at angle back found)
+    radii_within angle back None h k = fine_then (part_value ev font at back) _ (value_within back h) (λ r. tt)
     radii_within angle back (Some c) h k =
-        fine_then (part_value evaluated font at c.front) _ (value_within c.front k.0)
-        (λ r. fine_then (part_value evaluated font at (drop 3 c.rest)) _ (value_within (drop 3 c.rest) (dropped 3 c.rest k.1)) (λ s. tt))
+        fine_then (part_value ev font at c.front) _ (value_within c.front k.0)
+        (λ r. fine_then (part_value ev font at (drop 3 c.rest)) _ (value_within (drop 3 c.rest) (dropped 3 c.rest k.1)) (λ s. tt))
 
-    polar_within : (front back : List Tok) → Within front → Within back → Fine (polar evaluated font at front back)
+    polar_within : (front back : List Tok) → Within front → Within back → Fine (polar ev font at front back)
     unfolding polar
     polar_within front back h k =
-        fine_then (evaluated font at front) _ (evaluated_fine font at front here h)
+        fine_then (ev font at front) _ (ev_fine front h)
         (λ angle. radii_within angle.number back (first_outside begins_and back) k (first_outside_keeps (λ (t : Tok). Good t.at) begins_and back k))
 
-    by_colon_within : (found : Option Cut) → CutFine found → Fine (by_colon evaluated font at found)
+    by_colon_within : (found : Option Cut) → CutFine found → Fine (by_colon ev font at found)
     by_colon_within None h = tt
-    by_colon_within (Some c) h = fine_then (polar evaluated font at c.front c.rest) _ (polar_within c.front c.rest h.0 h.1) (λ pair. tt)
+    by_colon_within (Some c) h = fine_then (polar ev font at c.front c.rest) _ (polar_within c.front c.rest h.0 h.1) (λ pair. tt)
 
-    by_comma_within : (ts : List Tok) (found : Option Cut) → Within ts → CutFine found → Fine (by_comma evaluated font at ts found)
+    by_comma_within : (ts : List Tok) (found : Option Cut) → Within ts → CutFine found → Fine (by_comma ev font at ts found)
     by_comma_within ts None h k = by_colon_within (before_char characters.colon ts) (before_char_keeps (λ (t : Tok). Good t.at) characters.colon ts h)
-    by_comma_within ts (Some c) h k = fine_then (plane evaluated font at c.front c.rest) _ (plane_within c.front c.rest k.0 k.1) (λ pair. tt)
+    by_comma_within ts (Some c) h k = fine_then (plane ev font at c.front c.rest) _ (plane_within c.front c.rest k.0 k.1) (λ pair. tt)
 
-    pub paired_within : (ts : List Tok) → Within ts → Fine (paired evaluated font at ts)
+    pub paired_within : (ts : List Tok) → Within ts → Fine (paired ev font at ts)
     unfolding paired
     paired_within ts h = by_comma_within ts (before_char characters.comma ts) h (before_char_keeps (λ (t : Tok). Good t.at) characters.comma ts h)
 
@@ -526,7 +532,11 @@ pub evaluated_at : (font : FontUnits) (at : ℕ) (ts : List Tok) (Good : ℕ →
 evaluated_at font at ts Good e h = only_fault (λ _. Unit {0}) (Early Good) (evaluated font at ts) (evaluated_fine Good font at ts e h)
 
 pub paired_at : (font : FontUnits) (at : ℕ) (ts : List Tok) (Good : ℕ → Type 0) → Good at → Within Good ts → IfErr (paired evaluated font at ts) (λ (f : Fault). Good f.at)
-paired_at font at ts Good e h = only_fault (λ _. Unit {0}) (Early Good) (paired evaluated font at ts) (paired_within Good font at e ts h)
+paired_at font at ts Good e h = only_fault (λ _. Unit {0}) (Early Good) (paired evaluated font at ts) (paired_within Good evaluated font at e (λ ts. evaluated_fine Good font at ts e) ts h)
+
+-- the same by any evaluation whose faults stand so
+pub paired_by_at : (ev : Evaluation) (font : FontUnits) (at : ℕ) (ts : List Tok) (Good : ℕ → Type 0) → Good at → ((ts : List Tok) → Within Good ts → IfErr (ev font at ts) (λ (f : Fault). Good f.at)) → Within Good ts → IfErr (paired ev font at ts) (λ (f : Fault). Good f.at)
+paired_by_at ev font at ts Good e fine h = only_fault (λ _. Unit {0}) (Early Good) (paired ev font at ts) (paired_within Good ev font at e (λ ts k. from_fault (λ _. Unit {0}) (Early Good) (ev font at ts) (λ _. tt) (fine ts k)) ts h)
 
 pub vector_at : (x y : ℤ) (at : ℕ) (p : ValuePair) (Good : ℕ → Type 0) → Good at → IfErr (vector_of x y at p) (λ (f : Fault). Good f.at)
 unfolding vector_of

@@ -6,8 +6,9 @@ ghost use Rattle.tk_expr.specs.declared.machine.Frame.TheVariants.{Else};
 ghost use Rattle.tk_expr.specs.Machine as spec;
 
 use crate::machine::Frame;
-use crate::values::{Found, chosen, number};
+use crate::values::{Found, chosen};
 use std::marker::Model;
+use tk_num::Scaled;
 use tk_token::{Code, Fault};
 
 /// The parentheses and `?` that may be open.
@@ -37,7 +38,7 @@ impl Frames {
         ensures { result ≡ [] }
     {
         Frames {
-            stack: [Frame::Then(Ok(number(0))); 64],
+            stack: [Frame::Then(Ok(Scaled::within(0))); 64],
             len: 0,
         }
     }

@@ -3,7 +3,7 @@
 ghost use Rattle.std.specs.Prelude.{◌≡◌};
 ghost use Rattle.tk_expr.specs.Machine as spec;
 
-use crate::values::{Found, is_true, negated, truth};
+use crate::values::{Found, is_true, truth};
 use tk_num::Scaled;
 
 /// An operator between two operands.
@@ -84,7 +84,7 @@ impl Signs {
         ensures { result ≡ spec.signed_by self x }
     {
         if self.negative {
-            return negated(as_truth(self.truth, x));
+            return as_truth(self.truth, x).negated();
         }
         as_truth(self.truth, x)
     }

@@ -5,7 +5,7 @@ ghost use Rattle.tk_expr.specs.Plain.{wanting, counting, pointed, Reaches, signe
 
 use crate::number::Decimal;
 use crate::pieces::{Mark, next_piece};
-use crate::values::{Found, negated};
+use crate::values::Found;
 use crate::{FontUnits, Value};
 use tk_token::{Fault, Tok};
 
@@ -113,7 +113,7 @@ fn signed(negative: bool, found: Found, unit: bool) -> Result<Value, Fault>
 {
     let number = found?;
     Ok(Value {
-        number: if negative { negated(number) } else { number },
+        number: if negative { number.negated() } else { number },
         unit,
     })
 }

@@ -13,18 +13,6 @@ use tk_token::{Code, Fault};
 /// A number, or the first fault that was met on the way to it.
 pub type Found = Result<Scaled, Fault>;
 
-/// The number of so many 65536ths, which are in range.
-#[inline(always)]
-pub(crate) fn number(sp: i64) -> Scaled
-    requires { IsScaled sp }
-    ensures { result ≡ sp }
-{
-    match Scaled::new(sp) {
-        Some(number) => number,
-        None => unreachable!(),
-    }
-}
-
 /// The number of so many 65536ths; TooLarge where it is out of range.
 #[inline(always)]
 fn in_range(sp: i64) -> Result<Scaled, NumFault>
@@ -62,7 +50,11 @@ pub(crate) fn placed(at: u32, number: Result<Scaled, NumFault>) -> Found
 pub(crate) fn truth(holds: bool) -> Scaled
     ensures { result ≡ spec.truth holds }
 {
-    if holds { number(65536) } else { number(0) }
+    if holds {
+        Scaled::within(65536)
+    } else {
+        Scaled::within(0)
+    }
 }
 
 /// A number is true where it isn't 0.
@@ -73,19 +65,12 @@ pub(crate) fn is_true(x: Scaled) -> bool
     x.sp() != 0
 }
 
-#[inline(always)]
-pub(crate) fn negated(x: Scaled) -> Scaled
-    ensures { result ≡ neg_ℤ x }
-{
-    number(-x.sp())
-}
-
 /// What a sign makes of a number.
 pub(crate) fn prefixed(sign: Prefix, x: Scaled) -> Scaled
     ensures { result ≡ spec.prefixed sign x }
 {
     match sign {
-        Prefix::Negate => negated(x),
+        Prefix::Negate => x.negated(),
         Prefix::Keep => x,
         Prefix::Not => truth(!is_true(x)),
     }
@@ -96,7 +81,7 @@ pub(crate) fn prefixed(sign: Prefix, x: Scaled) -> Scaled
 fn power(x: Scaled, exponent: u32) -> Result<Scaled, NumFault>
     ensures { result ≡ spec.power x exponent }
 {
-    let mut product = number(65536);
+    let mut product = Scaled::within(65536);
     for _ in 0..exponent {
         product = mul(product, x)?;
     }
@@ -110,7 +95,7 @@ fn whole_power(x: Scaled, y: i64) -> Result<Scaled, NumFault>
 {
     let exponent = (y.unsigned_abs() / 65536) as u32;
     if y < 0 {
-        return div(number(65536), power(x, exponent)?);
+        return div(Scaled::within(65536), power(x, exponent)?);
     }
     power(x, exponent)
 }
@@ -185,7 +170,7 @@ pub(crate) fn in_unit(font: &FontUnits, unit: Unit, x: Scaled) -> Result<Scaled,
 {
     let size = size_in(font, unit, x.sp().unsigned_abs())?;
     if x.sp() < 0 {
-        return Ok(negated(size));
+        return Ok(size.negated());
     }
     Ok(size)
 }
@@ -201,7 +186,7 @@ pub(crate) fn in_degrees(x: Scaled) -> Result<Scaled, NumFault>
 pub(crate) fn pi() -> Scaled
     ensures { result ≡ spec.pi_value }
 {
-    number(205_887)
+    Scaled::within(205_887)
 }
 
 /// The greatest whole number, in 65536ths, that isn't greater.
@@ -235,12 +220,12 @@ fn signum(x: Scaled) -> Scaled
     ensures { result ≡ spec.signum x }
 {
     if x.sp() == 0 {
-        return number(0);
+        return Scaled::within(0);
     }
     if x.sp() < 0 {
-        number(-65536)
+        Scaled::within(-65536)
     } else {
-        number(65536)
+        Scaled::within(65536)
     }
 }
 
@@ -253,12 +238,12 @@ pub(crate) fn called_one(function: One, x: Scaled) -> Result<Scaled, NumFault>
         One::Cos => Ok(cos(x)),
         One::Tan => tan(x),
         One::Sqrt => root(x),
-        One::Abs => Ok(number(x.sp().abs())),
+        One::Abs => Ok(Scaled::within(x.sp().abs())),
         One::Sign => Ok(signum(x)),
         One::Floor => in_range(floored(x.sp())),
         One::Ceil => in_range(ceiled(x)),
         One::Round => in_range(rounded(x)),
-        One::Int => Ok(number(x.sp() - x.sp() % 65536)),
+        One::Int => Ok(Scaled::within(x.sp() - x.sp() % 65536)),
     }
 }
 
@@ -269,7 +254,7 @@ fn remainder(x: Scaled, y: Scaled) -> Result<Scaled, NumFault>
     if y.sp() == 0 {
         return Err(NumFault::DivZero);
     }
-    Ok(number(x.sp() % y.sp()))
+    Ok(Scaled::within(x.sp() % y.sp()))
 }
 
 /// The length of the vector of `x` and `y`, cut downward.

@@ -1,7 +1,7 @@
 //! Scaled numbers: whole counts of 65536ths of a point, as TeX has them.
 #![tactic(auto)]
 
-ghost use Rattle.std.specs.Prelude.{◌≡◌, ◌≤◌};
+ghost use Rattle.std.specs.Prelude.{◌≡◌, ◌≤◌, neg_ℤ};
 ghost use Rattle.std.specs.Option.{SomeIff};
 ghost use Rattle.tk_num.specs.Number.{IsScaled};
 
@@ -59,6 +59,26 @@ impl Scaled {
         } else {
             None
         }
+    }
+
+    /// The number of so many 65536ths, which are in range.
+    #[inline(always)]
+    pub fn within(sp: i64) -> Scaled
+        requires { IsScaled sp }
+        ensures { result ≡ sp }
+    {
+        match Scaled::new(sp) {
+            Some(number) => number,
+            None => unreachable!(),
+        }
+    }
+
+    /// The same number with the other sign.
+    #[inline(always)]
+    pub fn negated(self) -> Scaled
+        ensures { result ≡ neg_ℤ self }
+    {
+        Scaled::within(-self.sp())
     }
 
     /// Its count of 65536ths.

@@ -13,7 +13,8 @@ use Rattle.tk_item.specs.declared.Item.{Item}
 use Rattle.tk_item.specs.declared.Item.TheVariants.{Path}
 use Rattle.tk_item.specs.declared.Frame.{Frame}
 use Rattle.tk_item.specs.declared.Drawing.{Drawing}
-use Rattle.tk_svg.specs.Scan.{◌and_then◌, Attribute, value_of, digits_of, after_digits, digits_behind_point, after_part, unsigned_from, unsigned_at, number_at, numbers_of, lone_number, scaled_of, is_empty, behind_separator}
+use Rattle.tk_characters.specs.Options.{◌and_then◌}
+use Rattle.tk_svg.specs.Scan.{Attribute, value_of, digits_of, after_digits, digits_behind_point, after_part, unsigned_from, unsigned_at, number_at, numbers_of, lone_number, scaled_of, is_empty, behind_separator}
 use Rattle.tk_svg.specs.PathData.{PathCommand, MoveTo, scaled_point, command_piece, command_pieces}
 use Rattle.tk_svg.specs.Paint.{value_or_initial, paint_of, is_length, length_value, cap_of, join_of, miter_of, dashes_of, stroke_of}
 use Rattle.tk_svg.specs.Document.{IsPathElement, Content, ends, path, IsDocument}

@@ -9,7 +9,8 @@ use Rattle.tk_item.specs.declared.Item.TheVariants.{Path}
 use Rattle.tk_item.specs.declared.Frame.{Frame}
 use Rattle.tk_item.specs.declared.Drawing.{Drawing}
 use Rattle.tk_characters.specs.Characters.{space, dash, slash, less, greater}
-use Rattle.tk_svg.specs.Scan.{is_xml_char, after_blanks, number_at, numbers_of, scaled_of, Attribute, Attributes, attribute, are_distinct, are_among, ◌and_then◌}
+use Rattle.tk_characters.specs.Options.{◌and_then◌}
+use Rattle.tk_svg.specs.Scan.{is_xml_char, after_blanks, number_at, numbers_of, scaled_of, Attribute, Attributes, attribute, are_distinct, are_among}
 use Rattle.tk_svg.specs.PathData.{IsPathData}
 use Rattle.tk_svg.specs.Paint.{paint_names, fill_of, stroke_of}
 

@@ -7,7 +7,8 @@ use Rattle.tk_item.specs.declared.Point.{Point}
 use Rattle.tk_item.specs.declared.Seg.{Seg}
 use Rattle.tk_item.specs.declared.Seg.TheVariants.{Move, Line, Curve, Close}
 use Rattle.tk_characters.specs.Characters.{plus, dash}
-use Rattle.tk_svg.specs.Scan.{after_blanks, after_separator, numbers_at, first_numbers_at, ◌and_then◌}
+use Rattle.tk_characters.specs.Options.{◌and_then◌}
+use Rattle.tk_svg.specs.Scan.{after_blanks, after_separator, numbers_at, first_numbers_at}
 
 -- ---- letters and their numbers (SVG 1.1, section 8.3.9, The grammar for path data)
 

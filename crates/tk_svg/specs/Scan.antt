@@ -1,15 +1,11 @@
 -- Blanks, numbers and attributes of an SVG text. A definition named `.._at` reads at the front and gives what stands behind.
-use Rattle.std.specs.Prelude.{◌≡◌, ℕ, zero, suc, ◌+◌, ◌*◌, ◌<◌, ◌⊎◌, Bool, true, false, IsTrue, ◌&&◌, ◌||◌, not, ◌==◌, nat_lt, nat_le, if◌then◌else◌, List, [], ◌∷◌, ◌++◌, length, Option, Some, None, option_and_then, is_some, ℤ, pos, neg_ℤ, bytes_eq}
+use Rattle.std.specs.Prelude.{◌≡◌, ℕ, zero, suc, ◌+◌, ◌*◌, ◌<◌, ◌⊎◌, Bool, true, false, IsTrue, ◌&&◌, ◌||◌, not, ◌==◌, nat_lt, nat_le, if◌then◌else◌, List, [], ◌∷◌, ◌++◌, length, Option, Some, None, is_some, ℤ, pos, neg_ℤ, bytes_eq}
 use Rattle.std.specs.List.{list_all, list_any}
 use Rattle.std.specs.Char.{is_ascii_digit}
 use Rattle.std.specs.Str.Parse.{digits_value}
 use Rattle.tk_num.specs.Number.{is_point, is_scaled, fraction_of}
+use Rattle.tk_characters.specs.Options.{◌and_then◌}
 use Rattle.tk_characters.specs.Characters.{tab, line_feed, carriage_return, space, quote, ampersand, plus, comma, dash, slash, colon, less, equals, greater}
-
--- the next step with what this one found, where it found something
-infixl 10 ◌and_then◌
-abbrev pub ◌and_then◌ : {A B : Type 0} → Option A → (A → Option B) → Option B
-o and_then f = option_and_then f o
 
 -- ---- characters
 

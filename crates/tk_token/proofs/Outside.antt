@@ -3,11 +3,11 @@ use Rattle.std.proofs.Common.{◌≡◌, ℕ, ◌+◌, ◌-◌, ◌<◌, Bool, t
 use Rattle.std.proofs.lemmas.List.{append-nil}
 use Rattle.std.proofs.Math.Seq.{take-append_seam, drop-append_seam}
 use Rattle.std.specs.List.{AllByRecursion}
-use Rattle.std.specs.Prelude.{◌&&◌, ◌==◌, if◌then◌else◌, option_map, option_and_then, slice_get, IfSome}
+use Rattle.std.specs.Prelude.{◌&&◌, ◌==◌, if◌then◌else◌, option_map, IfSome}
 use Rattle.tk_token.specs.declared.Kind.{Kind}
 use Rattle.tk_token.specs.declared.Tok.{Tok}
 use Rattle.tk_token.specs.Kinds.{is_char, is_close, begins}
-use Rattle.tk_token.specs.Groups.{Cut, cut, with_first, depth_after, first_outside_in, first_outside, past_first, before_char, group_of, closer_of}
+use Rattle.tk_token.specs.Groups.{Cut, cut, with_first, depth_after, first_outside_in, first_outside, past_first, before_char, group_of}
 
 -- ---- one step
 
@@ -164,17 +164,6 @@ module _ (P : Tok → Type 0) where
 
   pub group_keeps : (ts : List Tok) → AllByRecursion P ts → IfSome (group_of ts) (λ c. AllByRecursion P c.front × AllByRecursion P c.rest)
   group_keeps ts all = parts_keep is_close ts (group_of ts) all (group_parts ts)
-
-  head_keeps : (ts : List Tok) → AllByRecursion P ts → IfSome (slice_get ts 0) P
-  head_keeps [] h = tt
-  head_keeps (t ∷ ts) h = h.0
-
-  closer_of_keeps : (o : Option Cut) → IfSome o (λ c. AllByRecursion P c.front × AllByRecursion P c.rest) → IfSome (option_and_then (λ (c : Cut). slice_get c.rest 0) o) P
-  closer_of_keeps None h = tt
-  closer_of_keeps (Some c) h = head_keeps c.rest h.1
-
-  pub closer_keeps : (ts : List Tok) → AllByRecursion P ts → IfSome (closer_of ts) P
-  closer_keeps ts all = closer_of_keeps (first_outside (begins is_close) ts) (first_outside_keeps (begins is_close) ts all)
 
 -- ---- over slices
 

@@ -1,5 +1,5 @@
 -- Braces in lists of tokens, and what stands outside them.
-use Rattle.std.specs.Prelude.{ℕ, suc, ◌-◌, Bool, ◌&&◌, ◌==◌, if◌then◌else◌, List, [], ◌∷◌, drop, slice_get, unwrap_or, Option, Some, None, option_map, option_and_then}
+use Rattle.std.specs.Prelude.{ℕ, suc, ◌-◌, Bool, ◌&&◌, ◌==◌, if◌then◌else◌, List, [], ◌∷◌, drop, unwrap_or, Option, Some, None, option_map}
 use Rattle.std.specs.List.{list_all}
 use Rattle.tk_token.specs.declared.Kind.{Kind}
 use Rattle.tk_token.specs.declared.Kind.TheVariants.{Open, Close}
@@ -51,10 +51,6 @@ before_char c ts = past_first (first_outside (begins (is_char c)) ts)
 -- the contents of a group whose `{` was read, and the tokens behind its `}`
 abbrev pub group_of : List Tok → Option Cut
 group_of ts = past_first (first_outside (begins is_close) ts)
-
--- the `}` that closes none of the tokens before it
-abbrev pub closer_of : List Tok → Option Tok
-closer_of ts = option_and_then (λ (c : Cut). slice_get c.rest 0) (first_outside (begins is_close) ts)
 
 -- ---- outer braces
 

@@ -61,3 +61,7 @@ begins_corner ts = begins_text (codes "-|") ts || begins_text (codes "|-") ts
 -- `and`
 abbrev pub begins_and : List Tok → Bool
 begins_and ts = begins_text (codes "and") ts
+
+-- `on` or `off`
+abbrev pub begins_dash : List Tok → Bool
+begins_dash ts = begins_text (codes "on") ts || begins_text (codes "off") ts

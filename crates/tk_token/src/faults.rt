@@ -19,10 +19,10 @@ pub(crate) fn text_of(source: &[u8]) -> Result<&str, Fault>
 {
     let text = match str::from_utf8(source) {
         Ok(text) => text,
-        Err(error) => return Err(fault(Code::NotUtf8, error.valid_up_to() as u32)),
+        Err(error) => return Err(Fault::new(Code::NotUtf8, error.valid_up_to() as u32)),
     };
     match first_refused(text) {
-        Some(at) => Err(fault(Code::BadChar, at as u32)),
+        Some(at) => Err(Fault::new(Code::BadChar, at as u32)),
         None => Ok(text),
     }
 }
@@ -57,7 +57,7 @@ pub(crate) fn balanced(alloc: Global, toks: &[Tok]) -> Result<(), Refusal>
         open_after(&mut open_at, *tok)?;
     }
     match open_at.last() {
-        Some(at) => Err(Refusal::Fault(fault(Code::Brace, *at))),
+        Some(at) => Err(Refusal::Fault(Fault::new(Code::Brace, *at))),
         None => Ok(()),
     }
 }
@@ -70,13 +70,13 @@ fn open_after(open_at: &mut Vec<u32>, tok: Tok) -> Result<(), Refusal>
     match tok.kind {
         Kind::Open => {
             if open_at.len() == MOST_OPEN {
-                return Err(Refusal::Fault(fault(Code::TooDeep, tok.at)));
+                return Err(Refusal::new(Code::TooDeep, tok.at));
             }
             Ok(add(open_at, tok.at)?)
         }
         Kind::Close => match open_at.pop() {
             Some(_) => Ok(()),
-            None => Err(Refusal::Fault(fault(Code::Brace, tok.at))),
+            None => Err(Refusal::new(Code::Brace, tok.at)),
         },
         _ => Ok(()),
     }
@@ -86,10 +86,4 @@ fn add(open_at: &mut Vec<u32>, at: u32) -> Result<(), AllocError>
     ensures { OnOk result (open_at.new.items ≡ open_at.old.items ++ at ∷ []) }
 {
     Ok(open_at.push(at)?)
-}
-
-fn fault(code: Code, at: u32) -> Fault
-    ensures { result ≡ record { code = code; at = at } }
-{
-    Fault { code, at }
 }

@@ -21,6 +21,8 @@ pub enum Sought {
     Corner,
     /// The letters `and`.
     And,
+    /// The letters `on` or `off`.
+    Dash,
 }
 
 impl Sought {
@@ -32,7 +34,8 @@ impl Sought {
             Sought::Char(wanted) => begins_char(list, wanted),
             Sought::Close => begins_close(list),
             Sought::Corner => begins_pair(list, '-', '|') || begins_pair(list, '|', '-'),
-            Sought::And => begins_and(list),
+            Sought::And => begins_three(list, 'a', 'n', 'd'),
+            Sought::Dash => begins_pair(list, 'o', 'n') || begins_three(list, 'o', 'f', 'f'),
         }
     }
 }
@@ -114,7 +117,7 @@ fn begins_close(list: &[Tok]) -> bool
 }
 
 /// Whether these two characters are in front.
-fn begins_pair(list: &[Tok], first_wanted: char, second_wanted: char) -> bool
+pub fn begins_pair(list: &[Tok], first_wanted: char, second_wanted: char) -> bool
     ensures { result ≡ kinds.begins_text (first_wanted ∷ second_wanted ∷ []) list.now }
 {
     match list.split_first() {
@@ -123,11 +126,19 @@ fn begins_pair(list: &[Tok], first_wanted: char, second_wanted: char) -> bool
     }
 }
 
-fn begins_and(list: &[Tok]) -> bool
-    ensures { result ≡ kinds.begins_and list.now }
+/// Whether these three characters are in front.
+pub fn begins_three(
+    list: &[Tok],
+    first_wanted: char,
+    second_wanted: char,
+    third_wanted: char,
+) -> bool
+    ensures { result ≡ kinds.begins_text (first_wanted ∷ second_wanted ∷ third_wanted ∷ []) list.now }
 {
     match list.split_first() {
-        Some((first, rest)) => first.kind.is_char('a') && begins_pair(rest, 'n', 'd'),
+        Some((first, rest)) => {
+            first.kind.is_char(first_wanted) && begins_pair(rest, second_wanted, third_wanted)
+        }
         None => false,
     }
 }

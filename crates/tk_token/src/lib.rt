@@ -1,6 +1,8 @@
 //! Tokens: how the bytes of a source are cut, the words that tokens name, and the faults that stand at their places.
 #![tactic(auto)]
 
+ghost use Rattle.std.specs.Prelude.{◌≡◌};
+
 mod faults;
 mod groups;
 mod kinds;
@@ -13,8 +15,8 @@ mod tests;
 mod texts;
 
 pub use groups::{
-    Sought, after_spaces, before_char, before_spaces, begins_char, closes_nothing, depth_after,
-    first_outside, trimmed, unbraced,
+    Sought, after_spaces, before_char, before_spaces, begins_char, begins_pair, begins_three,
+    closes_nothing, depth_after, first_outside, trimmed, unbraced,
 };
 pub use kinds::one_word;
 pub use laws::{
@@ -141,11 +143,29 @@ pub struct Fault {
     pub at: u32,
 }
 
+impl Fault {
+    /// That fault at that place.
+    pub fn new(code: Code, at: u32) -> Fault
+        ensures { result ≡ record { code = code; at = at } }
+    {
+        Fault { code, at }
+    }
+}
+
 /// Why a call that takes memory gave nothing.
 #[derive(Clone, Copy, Debug, PartialEq, Eq)]
 pub enum Refusal {
     Fault(Fault),
     OutOfMemory,
+}
+
+impl Refusal {
+    /// That fault at that place.
+    pub fn new(code: Code, at: u32) -> Refusal
+        ensures { result ≡ Refusal.Fault (record { code = code; at = at }) }
+    {
+        Refusal::Fault(Fault { code, at })
+    }
 }
 
 impl From<AllocError> for Refusal {

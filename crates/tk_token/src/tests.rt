@@ -6,7 +6,6 @@ use crate::{
     unbraced,
 };
 use std::alloc::{AllocError, Global};
-use std::process::Abort;
 use std::test::Fail;
 
 /// Sources with their tokens: a word as `\word|`, a symbol as `!` and its character, a gap as `_`.
@@ -100,8 +99,8 @@ const SEARCHES: [(&str, Sought, Option<usize>); 16] = [
     ("a-|b", Sought::Corner, Some(1)),
     ("a|-b-|c", Sought::Corner, Some(1)),
     ("{a-|b}", Sought::Corner, None),
-    ("a- |b", Sought::Corner, None),
-    ("1 and 2", Sought::And, Some(2)),
+    ("a-_|b", Sought::Corner, None),
+    ("1_and_2", Sought::And, Some(2)),
     ("1an2and", Sought::And, Some(4)),
     ("{and}an", Sought::And, None),
     ("", Sought::And, None),
@@ -110,154 +109,180 @@ const SEARCHES: [(&str, Sought, Option<usize>); 16] = [
 /// Texts, and what they are without one outer pair of braces.
 const UNBRACED: [(&str, &str); 8] = [
     ("{a,b}", "a,b"),
-    (" {a}  ", "a"),
-    ("{{a} }", "{a} "),
+    ("_{a}__", "a"),
+    ("{{a}_}", "{a}_"),
     ("{}", ""),
     // What isn't one group stays as it is.
     ("{a},{b}", "{a},{b}"),
-    (" a ", " a "),
+    ("_a_", "_a_"),
     ("{a", "{a"),
     ("", ""),
 ];
 
-fn shown(rt: &impl Abort, alloc: Global, source: &str) -> Result<String, Fail> {
-    let source = source.as_bytes();
-    assert!(rt; source.len() < 100);
-    let Ok(lexed) = lex(alloc, source) else {
-        return Err("no tokens".into());
-    };
-    let mut text = String::new(alloc);
-    for tok in &lexed.toks {
-        match tok.kind {
-            Kind::Char(character) => text.push(character)?,
-            Kind::Word(n) => {
-                text.push('\\')?;
-                text.push_str(lexed.names.word(n).unwrap_or("?"))?;
-                text.push('|')?;
-            }
-            Kind::Symbol(character) => {
-                text.push('!')?;
-                text.push(character)?;
-            }
-            Kind::Open => text.push('{')?,
-            Kind::Close => text.push('}')?,
-            Kind::Param => text.push('#')?,
-            Kind::Arg(_) => text.push('?')?,
-            Kind::Space => text.push('_')?,
+/// What a spelling has behind a token, if it begins with that.
+fn behind<'t>(spelling: &'t str, kind: Kind, names: &Names) -> Option<&'t str> {
+    match kind {
+        Kind::Char(character) => spelling.strip_prefix(character),
+        Kind::Word(n) => {
+            let word = spelling.strip_prefix('\\')?;
+            word.strip_prefix(names.word(n)?)?.strip_prefix('|')
+        }
+        Kind::Symbol(character) => spelling.strip_prefix('!')?.strip_prefix(character),
+        Kind::Open => spelling.strip_prefix('{'),
+        Kind::Close => spelling.strip_prefix('}'),
+        Kind::Param => spelling.strip_prefix('#'),
+        Kind::Arg(_) => None,
+        Kind::Space => spelling.strip_prefix('_'),
+    }
+}
+
+/// Whether tokens are spelled so.
+fn are_spelled(toks: &[Tok], names: &Names, spelling: &str) -> bool {
+    let mut left = spelling;
+    for tok in toks {
+        match behind(left, tok.kind, names) {
+            Some(rest) => left = rest,
+            None => return false,
         }
     }
-    Ok(text)
+    left.is_empty()
+}
+
+/// Whether a source has tokens of that spelling.
+fn is_cut(alloc: Global, source: &str, spelling: &str) -> bool {
+    let bytes = source.as_bytes();
+    let lexed = if bytes.len() < 100 {
+        lex(alloc, bytes).ok()
+    } else {
+        None
+    };
+    lexed.is_some_and(|it| are_spelled(&it.toks, &it.names, spelling))
+}
+
+/// Whether the tokens of a source stand at those places.
+fn stands_at(alloc: Global, source: &str, places: &[u32]) -> bool {
+    let bytes = source.as_bytes();
+    let lexed = if bytes.len() < 100 {
+        lex(alloc, bytes).ok()
+    } else {
+        None
+    };
+    lexed.is_some_and(|it| it.toks.iter().map(|tok| tok.at).eq(places.iter().copied()))
+}
+
+/// A kind of a test's token, `_` for a gap.
+fn kind_of(character: char) -> Kind {
+    match character {
+        '{' => Kind::Open,
+        '}' => Kind::Close,
+        '_' => Kind::Space,
+        _ => Kind::Char(character),
+    }
 }
 
 /// The tokens of a text, which may have a `}` too many: its braces are cut one by one.
 fn toks(alloc: Global, text: &str) -> Result<Vec<Tok>, AllocError> {
     let mut toks = Vec::new(alloc);
     for character in text.chars() {
-        let kind = match character {
-            '{' => Kind::Open,
-            '}' => Kind::Close,
-            ' ' => Kind::Space,
-            _ => Kind::Char(character),
-        };
+        let kind = kind_of(character);
         toks.push(Tok { kind, at: 0 })?;
     }
     Ok(toks)
 }
 
 #[test]
-fn sources_are_cut_into_tokens(rt: HostRuntime) -> Result<(), Fail> {
-    for (source, toks) in &CUTS {
-        let text = shown(&rt, rt.alloc(), source)?;
-        assert_eq!(rt; text.as_str(), *toks, "{source}");
+fn sources_are_cut_into_tokens(rt: HostRuntime) {
+    for (source, spelling) in &CUTS {
+        assert!(rt; is_cut(rt.alloc(), source, spelling), "{source}");
     }
     for (source, places) in &AT {
-        let bytes = source.as_bytes();
-        assert!(rt; bytes.len() < 100);
-        let Ok(lexed) = lex(rt.alloc(), bytes) else {
-            return Err("no tokens".into());
-        };
-        let toks = lexed.toks.as_slice();
-        assert_eq!(rt; toks.len(), places.len(), "{source}");
-        for (tok, at) in toks.iter().zip(places.iter()) {
-            assert_eq!(rt; tok.at, *at, "{source}");
-        }
+        assert!(rt; stands_at(rt.alloc(), source, places), "{source}");
     }
-    let fault = Fault {
-        code: Code::NotUtf8,
-        at: 1,
-    };
+    let code = Code::NotUtf8;
+    let fault = Fault { code, at: 1 };
     assert!(rt; matches!(lex(rt.alloc(), b"a\xff"), Err(Refusal::Fault(found)) if found == fault));
-    Ok(())
 }
 
-/// The place right after a text.
-fn place_after(rt: &impl Abort, before: &str) -> (u32, u32) {
-    assert!(rt; before.len() <= 1_000);
-    place(before.as_bytes(), before.len() as u32)
+/// Whether words are numbered once each.
+fn are_numbered(alloc: Global) -> Result<bool, AllocError> {
+    let mut names = Names::new(alloc);
+    let numbers = [names.add("draw")?, names.add("fill")?, names.add("draw")?];
+    Ok(numbers == [0, 1, 0] && names.word(1) == Some("fill") && names.word(2) == None)
 }
 
 #[test]
 fn words_have_numbers_and_places_lines(rt: HostRuntime) -> Result<(), Fail> {
-    let mut names = Names::new(rt.alloc());
-    assert_eq!(rt; names.add("draw")?, 0);
-    assert_eq!(rt; names.add("fill")?, 1);
-    assert_eq!(rt; names.add("draw")?, 0);
-    assert_eq!(rt; names.word(1), Some("fill"));
-    assert_eq!(rt; names.word(2), None);
-    // `é` has two bytes.
-    assert_eq!(rt; place_after(&rt, "é\nb"), (2, 2));
-    // What stands after the place doesn't count.
-    assert_eq!(rt; place(b"a\nbc\n\xff", 3), (2, 2));
+    assert!(rt; are_numbered(rt.alloc())?);
+    // `é` has two bytes, and what stands after the place doesn't count.
+    assert!(rt; place("é\nb".as_bytes(), 4) == (2, 2));
+    assert!(rt; place(b"a\nbc\n\xff", 3) == (2, 2));
     Ok(())
+}
+
+/// How many tokens a search finds in front and behind.
+fn counts(found: Option<(&[Tok], &[Tok])>) -> Option<(usize, usize)> {
+    let (front, rest) = found?;
+    Some((front.len(), rest.len()))
+}
+
+/// Whether a search of a text finds the place behind so many tokens.
+fn is_found_behind(
+    alloc: Global,
+    text: &str,
+    sought: Sought,
+    before: Option<usize>,
+) -> Result<bool, AllocError> {
+    let toks = toks(alloc, text)?;
+    let found = counts(first_outside(&toks, sought));
+    Ok(match before {
+        Some(front) => found == Some((front, toks.len().saturating_sub(front))),
+        None => found == None,
+    })
+}
+
+/// Whether spaces round a list are passed over.
+fn is_trimmed(spaced: &[Tok]) -> bool {
+    let inside = trimmed(spaced);
+    after_spaces(spaced).len() == 4 && inside.len() == 3 && begins_char(inside, 'a')
 }
 
 #[test]
 fn searches_end_outside_braces(rt: HostRuntime) -> Result<(), Fail> {
     for (text, sought, before) in &SEARCHES {
-        let toks = toks(rt.alloc(), text)?;
-        let found = first_outside(toks.as_slice(), *sought);
-        assert_eq!(rt; found.map(|(front, _)| front.len()), *before, "{text}");
-        if let Some((front, rest)) = found {
-            assert_eq!(rt;
-                toks.len().checked_sub(front.len()),
-                Some(rest.len()),
-                "{text}"
-            );
-        }
+        assert!(rt;
+            is_found_behind(rt.alloc(), text, *sought, *before)?,
+            "{text}"
+        );
     }
-    let spaced = toks(rt.alloc(), "  a b ")?;
-    assert_eq!(rt; after_spaces(spaced.as_slice()).len(), 4);
-    assert_eq!(rt; trimmed(spaced.as_slice()).len(), 3);
-    assert!(rt; begins_char(trimmed(spaced.as_slice()), 'a'));
-    assert_eq!(rt; depth_after(0, Kind::Open), 1);
-    assert_eq!(rt; depth_after(0, Kind::Close), 0);
+    assert!(rt; is_trimmed(&toks(rt.alloc(), "__a_b_")?));
+    assert!(rt; depth_after(0, Kind::Open) == 1 && depth_after(0, Kind::Close) == 0);
     assert!(rt; closes_nothing(0, Kind::Close) && !closes_nothing(1, Kind::Close));
     Ok(())
+}
+
+/// Whether a text without one outer pair of braces is spelled so.
+fn is_unbraced(alloc: Global, text: &str, inside: &str) -> Result<bool, AllocError> {
+    let braced = toks(alloc, text)?;
+    Ok(are_spelled(unbraced(&braced), &Names::new(alloc), inside))
+}
+
+/// Whether the tokens of a text have that text, and stand at one place.
+fn has_its_text(alloc: Global, text: &str) -> Result<bool, AllocError> {
+    let spelled = tokens_of(alloc, 7, text)?;
+    let found = text_in(alloc, &spelled)?;
+    Ok(found.as_deref() == Some(text) && end_of(5, &spelled) == 7 && one_word(&spelled) == None)
 }
 
 #[test]
 fn tokens_have_texts_and_texts_tokens(rt: HostRuntime) -> Result<(), Fail> {
     for (text, inside) in &UNBRACED {
-        let braced = toks(rt.alloc(), text)?;
-        let wanted = toks(rt.alloc(), inside)?;
-        assert_eq!(rt; unbraced(braced.as_slice()), wanted.as_slice(), "{text}");
+        assert!(rt; is_unbraced(rt.alloc(), text, inside)?, "{text}");
     }
-    let spelled = tokens_of(rt.alloc(), 7, "é b")?;
-    assert_eq!(rt;
-        text_in(rt.alloc(), spelled.as_slice())?.as_deref(),
-        Some("é b")
-    );
-    assert_eq!(rt; trimmed(spelled.as_slice()).len(), 3);
-    assert_eq!(rt; end_of(5, spelled.as_slice()), 7);
-    assert_eq!(rt; end_of(5, &[]), 5);
-    let braced = toks(rt.alloc(), "a{}")?;
-    assert_eq!(rt; text_in(rt.alloc(), braced.as_slice())?, None);
-    let word = Tok {
-        kind: Kind::Word(3),
-        at: 0,
-    };
-    assert_eq!(rt; one_word(&[word]), Some(3));
-    assert_eq!(rt; one_word(&[word, word]), None);
-    assert_eq!(rt; one_word(spelled.as_slice()), None);
+    assert!(rt; has_its_text(rt.alloc(), "é b")?);
+    assert!(rt; end_of(5, &[]) == 5);
+    assert!(rt; text_in(rt.alloc(), &toks(rt.alloc(), "a{}")?)?.is_none());
+    let kind = Kind::Word(3);
+    let word = Tok { kind, at: 0 };
+    assert!(rt; one_word(&[word]) == Some(3) && one_word(&[word, word]) == None);
     Ok(())
 }

@@ -1,11 +1,10 @@
-use Rattle.std.proofs.Common.{◌≡◌, ℕ, ◌+◌, Ok, Err, rules, ap, sym, ◌∙◌, arith}
+use Rattle.std.proofs.Common.{ℕ, Ok, Err, rules, ap, sym, ◌∙◌, arith}
 use Rattle.tk_token.specs.declared.Code.TheVariants.{MacroSyntax}
 use Rattle.tk_token.specs.declared.Fault.{Fault}
 use Rattle.tk_token.specs.Answers.{Answer}
 use Rattle.tk_token.specs.Kinds.{is_char}
 use Rattle.tk_token.proofs.Answering.{then_is}
 use Rattle.tk_expand.specs.Reading.{Read, read, after_token}
-use Rattle.tk_define.specs.Heads.{digit}
 use Rattle.tk_define.proofs.Counting.{then_fault, fails_next, fails_digit, goes, opens, misfits, at_nine}
 use Rattle.tk_define.proofs.head.parameters.Goals as goal
 

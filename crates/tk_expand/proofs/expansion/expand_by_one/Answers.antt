@@ -1,6 +1,5 @@
-use Rattle.std.proofs.Common.{◌≡◌, ℕ, List, ap, sym, ◌∙◌, arith, Ok}
+use Rattle.std.proofs.Common.{ℕ, ap, sym, ◌∙◌, arith, Ok}
 use Rattle.std.proofs.lemmas.Result.{err_from_is_err_and}
-use Rattle.tk_token.specs.declared.Tok.{Tok}
 use Rattle.tk_token.specs.Answers.{Answer}
 use Rattle.tk_expand.specs.Expand.{Stream, stream, full}
 use Rattle.tk_expand.specs.Unread.{unread}

@@ -16,4 +16,4 @@ loop-tok-preserved c = record {
 
 pub returns-in-Some : goal.returns-in-Some
 returns-in-Some c = λ names.
-    left_open names c.args.toks.now c.loop-tok.tok-index c.loop-tok.open_at.items c.in-Some.at.now c.loop-tok-test.false (c.loop-tok.invariant.told names) (c.in-Some.ensures.value ∙ ap (λ (xs : List ℕ). slice_get xs (length xs - 1)) c.deref.ensures.value) ∙ ap (λ (f : Fault). Err f) (sym c.fault.ensures)
+    left_open names c.args.toks.now c.loop-tok.tok-index c.loop-tok.open_at.items c.in-Some.at.now c.loop-tok-test.false (c.loop-tok.invariant.told names) (c.in-Some.ensures.value ∙ ap (λ (xs : List ℕ). slice_get xs (length xs - 1)) c.deref.ensures.value) ∙ ap (λ (f : Fault). Err f) (sym c.new.ensures)

@@ -1,4 +1,4 @@
-use Rattle.std.proofs.Common.{◌≡◌, suc, ◌-◌, length, take, slice_set, sym, ap, ◌∙◌, arith}
+use Rattle.std.proofs.Common.{◌≡◌, suc, ◌-◌, length, slice_set, sym, ap, ◌∙◌, arith}
 use Rattle.tk_expand.specs.Stops.{before_stop}
 use Rattle.tk_expand.specs.Unread.{Unread}
 use Rattle.tk_expand.proofs.Stacks.{no_tokens, stacked-set, last_left_out}

@@ -1,4 +1,4 @@
-use Rattle.std.proofs.Common.{◌≡◌, suc, ◌-◌, length, slice_get, Some, sym, ap, ◌∙◌, arith}
+use Rattle.std.proofs.Common.{◌≡◌, suc, ◌-◌, length, slice_get, sym, ap, ◌∙◌, arith}
 use Rattle.tk_expand.specs.Unread.{Unread}
 use Rattle.tk_expand.proofs.Stacks.{none_first, first_of_last}
 use Rattle.tk_expand.proofs.input.Input.first.Goals as goal

@@ -1,4 +1,4 @@
-use Rattle.std.proofs.Common.{◌≡◌, ℕ, Ok, rules, sym, ap, ◌∙◌, arith}
+use Rattle.std.proofs.Common.{ℕ, rules, sym, ap, ◌∙◌, arith}
 use Rattle.tk_token.proofs.Answering.{fails_as}
 use Rattle.tk_expand.specs.Expand.{stream}
 use Rattle.tk_expand.specs.Reading.{next_solid}

@@ -1,5 +1,4 @@
-use Rattle.std.proofs.Common.{◌≡◌, ◌∷◌, slice_get, Some, None, ◌∙◌, ap, sym, length, arith}
-use Rattle.tk_token.specs.Spaces.{after_spaces}
+use Rattle.std.proofs.Common.{◌≡◌, ◌∷◌, ◌∙◌, ap, sym, length, arith}
 use Rattle.tk_expand.specs.Unread.{past_spaces}
 use Rattle.tk_expand.proofs.Written.{first_dropped, passed_over, stays, none_stays, same_list}
 use Rattle.tk_expand.proofs.input.Input.skip_spaces.Goals as goal
