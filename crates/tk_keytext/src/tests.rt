@@ -5,6 +5,7 @@ use crate::{
 };
 use std::alloc::{AllocError, Global};
 use std::test::Fail;
+use tk_native::{LookKey, Native};
 use tk_store::{Body, Entry, Need, Run};
 use tk_token::{Code, Fault, Kind, Refusal, Tok};
 
@@ -120,7 +121,7 @@ const EDITS: [(&str, &str, &str, &str); 44] = [
         ".value forbidden",
         "native",
         "no value",
-        "native 7;-;forbidden",
+        "native;-;forbidden",
     ),
     (".value forbidden", "choice", "x", "choice;-;forbidden"),
     (".initial", "none", "x", "-;x;free"),
@@ -168,18 +169,22 @@ fn show_word(text: &mut String, word: u32, at: u32) -> Result<(), AllocError> {
     write!(text, "{at}")
 }
 
+fn show_tok(text: &mut String, tok: Tok) -> Result<(), AllocError> {
+    text.push(match tok.kind {
+        Kind::Char(character) => character,
+        Kind::Word(word) => return show_word(text, word, tok.at),
+        Kind::Open => '{',
+        Kind::Close => '}',
+        Kind::Param => '#',
+        Kind::Space => ' ',
+        Kind::Arg(n) => return write!(text, "[{n}]"),
+        Kind::Symbol(_) => '?',
+    })
+}
+
 fn show_toks(text: &mut String, toks: &[Tok]) -> Result<(), AllocError> {
     for tok in toks {
-        match tok.kind {
-            Kind::Char(character) => text.push(character)?,
-            Kind::Word(word) => show_word(text, word, tok.at)?,
-            Kind::Open => text.push('{')?,
-            Kind::Close => text.push('}')?,
-            Kind::Param => text.push('#')?,
-            Kind::Space => text.push(' ')?,
-            Kind::Arg(n) => write!(text, "[{n}]")?,
-            Kind::Symbol(_) => text.push('?')?,
-        }
+        show_tok(text, *tok)?;
     }
     Ok(())
 }
@@ -197,7 +202,7 @@ fn show_part(text: &mut String, part: Part<'_>) -> Result<(), AllocError> {
 
 fn show_run(text: &mut String, run: &Option<Run>) -> Result<(), AllocError> {
     match run {
-        Some(Run::Native(n)) => write!(text, "native {n}"),
+        Some(Run::Native(_)) => text.push_str("native"),
         Some(Run::Choice) => text.push_str("choice"),
         Some(Run::StoreIn(word)) => {
             text.push_str("store ")?;
@@ -260,13 +265,21 @@ fn entry(run: Option<Run>, value: Option<Body>, need: Need) -> Option<Entry> {
 
 /// The entry of that name.
 fn old(alloc: Global, name: &str) -> Result<Option<Entry>, Fail> {
-    let v = body(alloc, "v")?;
+    let look = Native::Look(LookKey::LineWidth);
     Ok(match name {
         "empty" => entry(None, None, Need::Free),
-        "native" => entry(Some(Run::Native(7)), None, Need::Default(body(alloc, "d")?)),
+        "native" => entry(
+            Some(Run::Native(look)),
+            None,
+            Need::Default(body(alloc, "d")?),
+        ),
         "choice" => entry(Some(Run::Choice), None, Need::Required),
-        "store" => entry(Some(Run::StoreIn('M' as u32)), Some(v), Need::Forbidden),
-        "code" => entry(Some(code(alloc)?), Some(v), Need::Free),
+        "store" => entry(
+            Some(Run::StoreIn('M' as u32)),
+            Some(body(alloc, "v")?),
+            Need::Forbidden,
+        ),
+        "code" => entry(Some(code(alloc)?), Some(body(alloc, "v")?), Need::Free),
         _ => None,
     })
 }
@@ -298,63 +311,70 @@ fn made(alloc: Global, name: &str, there: &str, value: &str) -> Result<String, F
     };
     let also = 'P' as u32;
     let old = old(alloc, there)?;
-    if value == "no value" {
-        return answer(
-            alloc,
-            edit_entry(alloc, handler, old.as_ref(), None, also, 50),
-        );
-    }
-    let value = toks(alloc, value)?;
+    let written = toks(alloc, value)?;
+    let value = if value == "no value" {
+        None
+    } else {
+        Some(written.as_slice())
+    };
     answer(
         alloc,
-        edit_entry(alloc, handler, old.as_ref(), Some(&value), also, 50),
+        edit_entry(alloc, handler, old.as_ref(), value, also, 50),
     )
+}
+
+/// Whether a list has those parts.
+fn has_parts(alloc: Global, list: &str, wanted: &str) -> Result<bool, AllocError> {
+    let toks = toks(alloc, list)?;
+    let mut text = String::new(alloc);
+    for part in split_list(&toks) {
+        show_part(&mut text, part)?;
+    }
+    Ok(text.as_str() == wanted)
 }
 
 #[test]
 fn a_list_has_its_parts(rt: HostRuntime) -> Result<(), Fail> {
-    let alloc = rt.alloc();
     for (list, wanted) in &LISTS {
-        let toks = toks(alloc, list)?;
-        let mut text = String::new(alloc);
-        for part in split_list(&toks) {
-            show_part(&mut text, part)?;
-        }
-        assert_eq!(rt; text.as_str(), *wanted, "{list}");
+        assert!(rt; has_parts(rt.alloc(), list, wanted)?, "{list}");
     }
     Ok(())
+}
+
+/// Whether a path is cut before its last part.
+fn is_cut_so(path: &str, last: usize, part: &str, parent: &str) -> bool {
+    last_part(path) == last && name_in(path) == part && parent_of(path) == parent
 }
 
 #[test]
 fn paths_have_their_parts(rt: HostRuntime) -> Result<(), Fail> {
     for (dir, name, wanted, last, part, parent) in &PATHS {
         let path = full_path(rt.alloc(), dir, name)?;
-        assert_eq!(rt; path.as_str(), *wanted);
-        assert_eq!(rt; last_part(path.as_str()), *last, "{wanted}");
-        assert_eq!(rt; name_in(path.as_str()), *part, "{wanted}");
-        assert_eq!(rt; parent_of(path.as_str()), *parent, "{wanted}");
+        assert!(rt; path.as_str() == *wanted, "{wanted}");
+        assert!(rt; is_cut_so(wanted, *last, part, parent), "{wanted}");
     }
     // A path without a `/` is its last part.
-    assert_eq!(rt; last_part("a"), 0);
-    assert_eq!(rt; name_in("a"), "a");
-    assert_eq!(rt; parent_of("a"), "");
+    assert!(rt; is_cut_so("a", 0, "a", ""));
     Ok(())
 }
 
 #[test]
-fn handlers_have_their_names(rt: HostRuntime) -> Result<(), Fail> {
+fn handlers_have_their_names(rt: HostRuntime) {
     for (name, wanted) in &HANDLERS {
         assert!(rt; handler_of(name) == *wanted, "{name}");
     }
-    Ok(())
+}
+
+/// Whether a handler makes that entry, or has that fault.
+fn makes(alloc: Global, row: &(&str, &str, &str, &str)) -> Result<bool, Fail> {
+    let (name, there, value, wanted) = *row;
+    Ok(made(alloc, name, there, value)?.as_str() == wanted)
 }
 
 #[test]
 fn handlers_make_entries(rt: HostRuntime) -> Result<(), Fail> {
-    let alloc = rt.alloc();
-    for (name, there, value, wanted) in &EDITS {
-        let given = made(alloc, name, there, value)?;
-        assert_eq!(rt; given.as_str(), *wanted, "{name}");
+    for row in &EDITS {
+        assert!(rt; makes(rt.alloc(), row)?, "{}, {}", row.0, row.3);
     }
     Ok(())
 }

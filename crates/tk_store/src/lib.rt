@@ -15,6 +15,7 @@ pub use body::{Body, digit_of};
 use std::alloc::AllocError;
 pub use steps::Steps;
 pub use store::Store;
+use tk_native::Native;
 
 /// What a word stands for: a body, in which arguments take the places of parameters.
 #[derive(Drop)]
@@ -28,8 +29,8 @@ pub struct Macro {
 /// What a key does with a value.
 #[derive(Drop)]
 pub enum Run {
-    /// A key that the program knows by itself, by its number.
-    Native(u16),
+    /// A key that is there from the beginning.
+    Native(Native),
     /// The value chooses a key below this one, which runs.
     Choice,
     /// The word with that number stands for the value from then on.
@@ -66,7 +67,7 @@ impl Run {
         ensures { IfOk result (λ run. run ≡ self.now) }
     {
         Ok(match self {
-            Run::Native(n) => Run::Native(*n),
+            Run::Native(key) => Run::Native(*key),
             Run::Choice => Run::Choice,
             Run::StoreIn(word) => Run::StoreIn(*word),
             Run::Code(args, body) => Run::Code(*args, body.copy()?),

@@ -2,7 +2,6 @@
 
 use crate::{Body, Entry, Macro, Need, Run, Store};
 use std::alloc::{AllocError, Global};
-use std::process::Abort;
 use std::test::Fail;
 use tk_token::{Code, Fault, Kind, Refusal, Tok};
 
@@ -52,9 +51,9 @@ enum Call {
     /// The word has that macro.
     Has(u32, u8),
     HasNone(u32),
-    SetKey(&'static str, u16),
+    SetKey(&'static str, u32),
     /// The key has that entry.
-    HasKey(&'static str, Option<u16>),
+    HasKey(&'static str, Option<u32>),
 }
 
 const LAST: u32 = 4_294_967_295;
@@ -196,54 +195,38 @@ fn shown(alloc: Global, body: &Body) -> Result<String, AllocError> {
     Ok(text)
 }
 
-fn assert_reads(
-    rt: &impl Abort,
-    alloc: Global,
-    args: u8,
-    text: &str,
-    wanted: &str,
-) -> Result<(), Refusal> {
+/// Whether a text is read as that body.
+fn is_read_so(alloc: Global, args: u8, text: &str, wanted: &str) -> Result<bool, Refusal> {
     let body = Body::parse(alloc, args, &written(alloc, text)?)?;
-    assert_eq!(rt; shown(alloc, &body)?.as_str(), wanted);
-    Ok(())
+    Ok(shown(alloc, &body)?.as_str() == wanted)
 }
 
-fn assert_refuses(
-    rt: &impl Abort,
-    alloc: Global,
-    args: u8,
-    text: &str,
-    at: u32,
-) -> Result<(), AllocError> {
+/// Whether a text is refused for the `#` at that place.
+fn is_refused_at(alloc: Global, args: u8, text: &str, at: u32) -> Result<bool, AllocError> {
     let code = Code::MacroSyntax;
-    match Body::parse(alloc, args, &written(alloc, text)?) {
-        Ok(_) => assert!(rt; false, "{text} is read"),
-        Err(refusal) => assert_eq!(rt; refusal, Refusal::Fault(Fault { code, at }), "{text}"),
-    }
-    Ok(())
+    let given = Body::parse(alloc, args, &written(alloc, text)?);
+    Ok(given.err() == Some(Refusal::Fault(Fault { code, at })))
 }
 
-/// Copies have the tokens of what was copied.
-fn assert_copies(rt: &impl Abort, alloc: Global, text: &str) -> Result<(), AllocError> {
+/// Whether copies have the tokens of what was copied.
+fn has_copies(alloc: Global, text: &str) -> Result<bool, AllocError> {
     let body = Body::from_vec(written(alloc, text)?)?;
     let copy = body.clone()?;
     let other = Body::new(alloc, body.as_slice())?;
     drop(body);
-    assert_eq!(rt; shown(alloc, &copy)?.as_str(), text);
-    assert_eq!(rt; shown(alloc, &other)?.as_str(), text);
-    Ok(())
+    let texts = [shown(alloc, &copy)?, shown(alloc, &other)?];
+    Ok(texts.iter().all(|it| it.as_str() == text))
 }
 
 #[test]
 fn bodies_are_read(rt: HostRuntime) -> Result<(), Fail> {
-    let alloc = rt.alloc();
-    for (args, text, wanted) in READ {
-        assert_reads(&rt, alloc, args, text, wanted)?;
+    for (args, text, wanted) in &READ {
+        assert!(rt; is_read_so(rt.alloc(), *args, text, wanted)?, "{text}");
     }
-    for (args, text, at) in MISFITS {
-        assert_refuses(&rt, alloc, args, text, at)?;
+    for (args, text, at) in &MISFITS {
+        assert!(rt; is_refused_at(rt.alloc(), *args, text, *at)?, "{text}");
     }
-    assert_copies(&rt, alloc, "a{b} #")?;
+    assert!(rt; has_copies(rt.alloc(), "a{b} #")?);
     Ok(())
 }
 
@@ -254,104 +237,137 @@ fn value(alloc: Global, args: u8) -> Result<Macro, Refusal> {
     })
 }
 
-fn entry(number: u16) -> Entry {
+fn entry(number: u32) -> Entry {
     Entry {
-        run: Some(Run::Native(number)),
+        run: Some(Run::StoreIn(number)),
         value: None,
         need: Need::Free,
     }
 }
 
-/// The number that the key at a path runs.
-fn number_at(store: &Store, path: &str) -> Option<u16> {
+/// The number of the word in which the key at a path stores.
+fn number_at(store: &Store, path: &str) -> Option<u32> {
     match &store.get_key(path)?.run {
-        Some(Run::Native(number)) => Some(*number),
+        Some(Run::StoreIn(number)) => Some(*number),
         _ => None,
     }
 }
 
-fn make(rt: &impl Abort, alloc: Global, store: &mut Store, call: Call) -> Result<(), Refusal> {
+/// The number of arguments of a word's macro.
+fn args_of(store: &Store, word: u32) -> Option<u8> {
+    Some(store.get_macro(word)?.args)
+}
+
+/// Makes a call: whether it may be made, and what it asks for is so.
+fn make(alloc: Global, store: &mut Store, call: Call) -> Result<bool, Refusal> {
     match call {
         Call::Open if store.level() < 128 => store.open(),
         Call::Close if store.level() > 0 => store.close_uncounted(),
+        Call::Open | Call::Close => return Ok(false),
         Call::Set(word, args) => store.set_macro(word, value(alloc, args)?)?,
-        Call::Has(word, args) => match store.get_macro(word) {
-            Some(found) => assert_eq!(rt; found.args, args, "{word}"),
-            None => assert!(rt; false, "{word} has no macro"),
-        },
-        Call::HasNone(word) => assert!(rt; store.get_macro(word).is_none(), "{word}"),
         Call::SetKey(path, number) => store.set_key(path, entry(number))?,
-        Call::HasKey(path, number) => assert_eq!(rt; number_at(store, path), number, "{path}"),
-        _ => assert!(rt; false, "no such call"),
+        Call::Has(word, args) => return Ok(args_of(store, word) == Some(args)),
+        Call::HasNone(word) => return Ok(args_of(store, word) == None),
+        Call::HasKey(path, number) => return Ok(number_at(store, path) == number),
     }
-    Ok(())
+    Ok(true)
+}
+
+/// Makes calls up to the first that fails: how many are made.
+fn made(alloc: Global, store: &mut Store, calls: &[Call]) -> Result<usize, Refusal> {
+    for (number, call) in calls.iter().enumerate() {
+        if !make(alloc, store, *call)? {
+            return Ok(number);
+        }
+    }
+    Ok(calls.len())
 }
 
 #[test]
 fn settings_end_with_their_levels(rt: HostRuntime) -> Result<(), Fail> {
-    let alloc = rt.alloc();
-    let mut store = Store::new(alloc)?;
-    for next in CALLS {
-        make(&rt, alloc, &mut store, next)?;
-    }
-    assert_eq!(rt; store.level(), 0);
-    for word in 0..128 {
-        make(&rt, alloc, &mut store, Call::Open)?;
-        make(&rt, alloc, &mut store, Call::Set(word, 7))?;
-    }
-    assert_eq!(rt; store.level(), 128);
-    for word in 0..128 {
-        make(&rt, alloc, &mut store, Call::Has(127 - word, 7))?;
-        make(&rt, alloc, &mut store, Call::Close)?;
-        make(
-            &rt,
-            alloc,
-            &mut store,
-            Call::Has(0, if word < 127 { 7 } else { 5 }),
-        )?;
-    }
-    assert_eq!(rt; store.level(), 0);
+    let mut store = Store::new(rt.alloc())?;
+    let count = made(rt.alloc(), &mut store, &CALLS)?;
+    assert!(rt; count == CALLS.len() && store.level() == 0, "call {count}");
+    let count = made(rt.alloc(), &mut store, &KEY_CALLS)?;
+    assert!(rt;
+        count == KEY_CALLS.len() && store.level() == 0,
+        "call {count} of keys"
+    );
     Ok(())
 }
 
-#[test]
-fn settings_of_keys_end_with_their_levels(rt: HostRuntime) -> Result<(), Fail> {
-    let alloc = rt.alloc();
-    let mut store = Store::new(alloc)?;
-    for next in KEY_CALLS {
-        make(&rt, alloc, &mut store, next)?;
+/// Opens 128 levels, and sets one more word at each.
+fn deepen(alloc: Global, store: &mut Store) -> Result<(), Refusal> {
+    for word in 0..128 {
+        made(alloc, store, &[Call::Open, Call::Set(word, 7)])?;
     }
-    assert_eq!(rt; store.level(), 0);
+    Ok(())
+}
+
+/// Closes 128 levels: how many of them end with their word.
+fn ended(alloc: Global, store: &mut Store) -> Result<u32, Refusal> {
+    let mut count: u32 = 0;
+    for word in 0..128 {
+        let word = 127 - word;
+        let calls = [Call::Has(word, 7), Call::Close, Call::HasNone(word)];
+        if made(alloc, store, &calls)? == 3 {
+            count = count.saturating_add(1);
+        }
+    }
+    Ok(count)
+}
+
+#[test]
+fn levels_are_open_up_to_128(rt: HostRuntime) -> Result<(), Fail> {
+    let mut store = Store::new(rt.alloc())?;
+    deepen(rt.alloc(), &mut store)?;
+    assert!(rt; store.level() == 128);
+    assert!(rt; ended(rt.alloc(), &mut store)? == 128 && store.level() == 0);
+    Ok(())
+}
+
+/// Sets 20,000 words and keys.
+fn widen(alloc: Global, store: &mut Store) -> Result<(), Refusal> {
     for number in 0..20_000 {
         let path = format!(in alloc; "/{number}")?;
         store.set_key(path.as_str(), entry(number))?;
+        store.set_macro(number, value(alloc, 1)?)?;
     }
-    for _ in 0..200_000 {
-        make(&rt, alloc, &mut store, Call::Open)?;
-        make(&rt, alloc, &mut store, Call::SetKey("/0", 1))?;
-        make(&rt, alloc, &mut store, Call::Close)?;
-    }
+    Ok(())
+}
+
+/// How many of these words and keys are as they were set.
+fn kept(alloc: Global, store: &Store) -> Result<u32, AllocError> {
+    let mut count: u32 = 0;
     for number in 0..20_000 {
         let path = format!(in alloc; "/{number}")?;
-        assert_eq!(rt; number_at(&store, path.as_str()), Some(number));
+        let found = number_at(store, path.as_str());
+        if found == Some(number) && args_of(store, number) == Some(1) {
+            count = count.saturating_add(1);
+        }
+    }
+    Ok(count)
+}
+
+/// Opens and closes 200,000 levels with a word and a key.
+fn pass_levels(alloc: Global, store: &mut Store) -> Result<(), Refusal> {
+    let calls = [
+        Call::Open,
+        Call::Set(0, 2),
+        Call::SetKey("/0", 1),
+        Call::Close,
+    ];
+    for _ in 0..200_000 {
+        made(alloc, store, &calls)?;
     }
     Ok(())
 }
 
 #[test]
 fn a_level_costs_what_is_set_there(rt: HostRuntime) -> Result<(), Fail> {
-    let alloc = rt.alloc();
-    let mut store = Store::new(alloc)?;
-    for word in 0..20_000 {
-        make(&rt, alloc, &mut store, Call::Set(word, 1))?;
-    }
-    for _ in 0..200_000 {
-        make(&rt, alloc, &mut store, Call::Open)?;
-        make(&rt, alloc, &mut store, Call::Set(0, 2))?;
-        make(&rt, alloc, &mut store, Call::Close)?;
-    }
-    for word in 0..20_000 {
-        make(&rt, alloc, &mut store, Call::Has(word, 1))?;
-    }
+    let mut store = Store::new(rt.alloc())?;
+    widen(rt.alloc(), &mut store)?;
+    pass_levels(rt.alloc(), &mut store)?;
+    assert!(rt; kept(rt.alloc(), &store)? == 20_000 && store.level() == 0);
     Ok(())
 }
