@@ -1,0 +1,5 @@
+pub mod DashCounts
+pub mod Evaluations
+pub mod Parentheses
+pub mod Places
+pub mod Splitting

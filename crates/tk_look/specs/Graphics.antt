@@ -1,0 +1,42 @@
+-- Where and how what follows is drawn, and what the native keys make of it.
+use Rattle.std.specs.Prelude.{ℕ, List, Option, Ok, Err, Result}
+use Rattle.tk_token.specs.declared.Code.{Code}
+use Rattle.tk_token.specs.declared.Code.TheVariants as codes
+use Rattle.tk_token.specs.declared.Tok.{Tok}
+use Rattle.tk_token.specs.Answers.{Answer, ◌>>=◌, fault}
+use Rattle.tk_native.specs.declared.Native.{Native}
+use Rattle.tk_affine.specs.declared.AffFault.{AffFault}
+use Rattle.tk_affine.specs.declared.AffFault.TheVariants as faults
+use Rattle.tk_affine.specs.declared.Matrix.{Matrix}
+use Rattle.tk_affine.specs.Steps.{unmoved, with_steps}
+use Rattle.tk_expr.specs.declared.FontUnits.{FontUnits}
+use Rattle.tk_expr.specs.Evaluates.{Evaluation}
+use Rattle.tk_look.specs.declared.GraphicsState.{GraphicsState}
+use Rattle.tk_look.specs.Applied.{applied}
+use Rattle.tk_look.specs.Looks.{initial_look, look_below}
+
+-- nothing is moved, and the look is the one in which nothing was set
+abbrev pub initial_graphics : FontUnits → GraphicsState
+initial_graphics font = record { matrix = unmoved; look = initial_look font }
+
+-- the same in a level that opens: what it draws has no name yet
+abbrev pub graphics_below : GraphicsState → GraphicsState
+graphics_below g = record g { look = look_below g.look }
+
+-- the code of a fault of matrices
+abbrev pub matrix_code : AffFault → Code
+matrix_code faults.TooLarge = codes.TooLarge
+matrix_code faults.Singular = codes.Singular
+
+-- a matrix, or its fault at a place
+abbrev pub matrix_at : ℕ → Result Matrix AffFault → Answer Matrix
+matrix_at at (Ok m) = Ok m
+matrix_at at (Err e) = fault (matrix_code e) at
+
+-- What a native key makes of its value and of what was set so far: its steps come behind those of the matrix, one after
+-- another.
+unfoldable pub graphics_by : ℕ → Evaluation → FontUnits → Native → List ℕ → Option (List Tok) → GraphicsState → Answer GraphicsState
+graphics_by at ev font key name value g = do
+  new ← applied at ev font key name value g.look
+  matrix ← matrix_at at (with_steps g.matrix new.steps)
+  Ok (record { matrix = matrix; look = new.look })

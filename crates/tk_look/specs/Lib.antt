@@ -1,0 +1,9 @@
+pub mod Applied
+pub mod Colours
+pub mod Dashes
+pub mod Looks
+pub mod Values
+pub mod Words
+pub mod Pieces
+pub mod Views
+pub mod Graphics

@@ -1,0 +1,90 @@
+//! Looks: how paths and nodes are painted and placed, colours by their texts, and what the keys that are there from the
+//! beginning make of a look (the PGF manual, sections "Actions on Paths", "Transformations" and "Nodes and Edges").
+#![tactic(auto)]
+
+mod colours;
+mod dashes;
+mod graphics;
+mod initial;
+mod keys;
+mod lengths;
+mod names;
+mod steps;
+#[cfg(test)]
+mod tests;
+mod values;
+mod words;
+
+pub use colours::colour;
+pub use graphics::matrix_code;
+pub use keys::apply;
+pub use lengths::{LineWidth, MiterLimit, Position};
+pub use names::NodeName;
+use tk_affine::{Anchor, Matrix, Shape};
+use tk_expr::Value;
+use tk_item::{Cap, Dashes, Join, Rgb, Rule};
+use tk_num::Scaled;
+
+/// How what follows is painted and placed. Lengths are in scaled points, angles in 65536ths of a degree, and a `Value`
+/// without a unit counts vectors of the picture.
+#[derive(Debug, Drop)]
+pub struct Look {
+    /// The name that a node gets.
+    pub name: Option<NodeName>,
+    /// Whether a path is drawn.
+    pub draw_on: bool,
+    /// Whether it is filled.
+    pub fill_on: bool,
+    /// The colour of lines.
+    pub draw: Rgb,
+    /// The colour of fills.
+    pub fill: Rgb,
+    /// The colour of text.
+    pub text: Rgb,
+    pub line_width: LineWidth,
+    pub line_cap: Cap,
+    pub line_join: Join,
+    pub miter_limit: MiterLimit,
+    pub dash_pattern: Dashes,
+    pub dash_phase: Scaled,
+    pub fill_rule: Rule,
+    /// The length of the vector to the right that numbers without a unit count.
+    pub x: Scaled,
+    /// The same of the vector upward.
+    pub y: Scaled,
+    pub x_radius: Value,
+    pub y_radius: Value,
+    pub start_angle: Option<Scaled>,
+    pub end_angle: Option<Scaled>,
+    pub delta_angle: Option<Scaled>,
+    /// The distance of the lines of a grid from left to right.
+    pub xstep: Value,
+    /// The same from below to above.
+    pub ystep: Value,
+    pub shape: Shape,
+    /// What a node has between its text and its border, on the left and on the right.
+    pub inner_xsep: Scaled,
+    /// The same above and below.
+    pub inner_ysep: Scaled,
+    /// What a node has between its border and its anchors, on the left and on the right; where it isn't set, half the line
+    /// width.
+    pub outer_xsep: Option<Scaled>,
+    /// The same above and below.
+    pub outer_ysep: Option<Scaled>,
+    pub minimum_width: Scaled,
+    pub minimum_height: Scaled,
+    /// The anchor of a node that is put at its place.
+    pub anchor: Anchor,
+    /// Where on a line a node stands: 0 is its beginning, 65536 its end.
+    pub pos: Option<Position>,
+    /// Whether a node is turned with its line.
+    pub sloped: bool,
+}
+
+/// Where and how what follows is drawn.
+#[derive(Debug, Drop)]
+pub struct GraphicsState {
+    /// What the steps of the transformation so far make.
+    pub matrix: Matrix,
+    pub look: Look,
+}

@@ -1,0 +1,241 @@
+//! How the values of keys are read. `at` is the place of the key's part in its list.
+
+ghost use Rattle.std.specs.Prelude.{◌≡◌, pos, option_map, option_copied, string_bytes, IfOk};
+ghost use Rattle.tk_token.specs.Refusals.{Gives};
+ghost use Rattle.tk_look.specs.Views.{text_there};
+ghost use Rattle.tk_expr.specs.Evaluated.{evaluated};
+ghost use Rattle.tk_expr.specs.Pairs.{paired};
+ghost use Rattle.tk_look.specs.Values as spec;
+ghost use Rattle.tk_look.specs.Applied as applied;
+ghost use Rattle.tk_look.specs.Words.{caps, joins, shapes, anchors};
+
+use crate::colours::colour;
+use crate::words::{anchor_named, cap_named, join_named, shape_named};
+use crate::{LineWidth, Look, MiterLimit, Position};
+use std::alloc::{AllocError, Global};
+use tk_affine::{Anchor, Shape};
+use tk_expr::{FontUnits, Value, ValuePair, eval, pair, vector};
+use tk_item::{Cap, Join, Point, Rgb};
+use tk_num::Scaled;
+use tk_token::{Code, Fault, Refusal, Tok, text_in, trimmed};
+
+// ---- numbers
+
+/// The value of an expression.
+#[tactic(auto, using(crate::proofs::Evaluations::answer_is))]
+pub(crate) fn evaluate(list: &[Tok], font: FontUnits, at: u32) -> Result<Value, Fault>
+    ensures { result ≡ evaluated font at list.now }
+{
+    eval(list, font, at)
+}
+
+/// A value that is an expression.
+pub(crate) fn measure_value(value: Option<&[Tok]>, font: FontUnits, at: u32) -> Result<Value, Fault>
+    ensures { result ≡ spec.measure_value at evaluated font (option_copied value.entry) }
+{
+    match value {
+        Some(list) => evaluate(list, font, at),
+        None => Err(Fault::new(Code::ValueRequired, at)),
+    }
+}
+
+/// Its number: a length without a unit counts points.
+pub(crate) fn number_value(value: Option<&[Tok]>, font: FontUnits, at: u32) -> Result<Scaled, Fault>
+    ensures { result ≡ spec.number_value at evaluated font (option_copied value.entry) }
+{
+    Ok(measure_value(value, font, at)?.number)
+}
+
+/// The width of a line.
+pub(crate) fn width_value(
+    value: Option<&[Tok]>,
+    font: FontUnits,
+    at: u32,
+) -> Result<LineWidth, Fault>
+    ensures { result ≡ spec.number_from at evaluated font (pos 0) (option_copied value.entry) }
+{
+    let width = number_value(value, font, at)?;
+    LineWidth::new(width).ok_or(Fault::new(Code::Domain, at))
+}
+
+/// The limit of miters.
+pub(crate) fn limit_value(
+    value: Option<&[Tok]>,
+    font: FontUnits,
+    at: u32,
+) -> Result<MiterLimit, Fault>
+    ensures { result ≡ spec.number_from at evaluated font (pos 65536) (option_copied value.entry) }
+{
+    let limit = number_value(value, font, at)?;
+    MiterLimit::new(limit).ok_or(Fault::new(Code::Domain, at))
+}
+
+/// A place along a line.
+pub(crate) fn position_value(
+    value: Option<&[Tok]>,
+    font: FontUnits,
+    at: u32,
+) -> Result<Position, Fault>
+    ensures { result ≡ applied.position_value at evaluated font (option_copied value.entry) }
+{
+    let place = number_value(value, font, at)?;
+    Position::new(place).ok_or(Fault::new(Code::Domain, at))
+}
+
+// ---- words and colours
+
+/// The text of a value that has to be there, if it is of characters and Spaces alone.
+fn text_value(alloc: Global, value: Option<&[Tok]>, at: u32) -> Result<Option<String>, Refusal>
+    ensures { Gives (λ text. option_map string_bytes text) result
+        (text_there at (option_copied value.entry)) }
+{
+    match value {
+        Some(list) => Ok(text_in(alloc, list)?),
+        None => Err(Refusal::new(Code::ValueRequired, at)),
+    }
+}
+
+/// The end of open lines.
+pub(crate) fn cap_value(alloc: Global, value: Option<&[Tok]>, at: u32) -> Result<Cap, Refusal>
+    ensures { Gives (λ cap. cap) result (spec.word_value at caps (option_copied value.entry)) }
+{
+    let Some(word) = text_value(alloc, value, at)? else {
+        return Err(Refusal::new(Code::UnknownChoice, at));
+    };
+    match cap_named(&word) {
+        Some(cap) => Ok(cap),
+        None => Err(Refusal::new(Code::UnknownChoice, at)),
+    }
+}
+
+/// The corner of lines.
+pub(crate) fn join_value(alloc: Global, value: Option<&[Tok]>, at: u32) -> Result<Join, Refusal>
+    ensures { Gives (λ join. join) result (spec.word_value at joins (option_copied value.entry)) }
+{
+    let Some(word) = text_value(alloc, value, at)? else {
+        return Err(Refusal::new(Code::UnknownChoice, at));
+    };
+    match join_named(&word) {
+        Some(join) => Ok(join),
+        None => Err(Refusal::new(Code::UnknownChoice, at)),
+    }
+}
+
+/// The shape of a node.
+pub(crate) fn shape_value(alloc: Global, value: Option<&[Tok]>, at: u32) -> Result<Shape, Refusal>
+    ensures { Gives (λ shape. shape) result (spec.word_value at shapes (option_copied value.entry)) }
+{
+    let Some(word) = text_value(alloc, value, at)? else {
+        return Err(Refusal::new(Code::UnknownChoice, at));
+    };
+    match shape_named(&word) {
+        Some(shape) => Ok(shape),
+        None => Err(Refusal::new(Code::UnknownChoice, at)),
+    }
+}
+
+/// A colour.
+pub(crate) fn colour_value(alloc: Global, value: Option<&[Tok]>, at: u32) -> Result<Rgb, Refusal>
+    ensures { Gives (λ c. c) result (spec.colour_value at (option_copied value.entry)) }
+{
+    let Some(text) = text_value(alloc, value, at)? else {
+        return Err(Refusal::new(Code::Colour, at));
+    };
+    match colour(&text) {
+        Some(rgb) => Ok(rgb),
+        None => Err(Refusal::new(Code::Colour, at)),
+    }
+}
+
+// ---- anchors and pairs
+
+/// The anchor that an angle gives; a text that isn't an expression isn't an anchor.
+fn as_anchor(found: Result<Value, Fault>, at: u32) -> Result<Anchor, Fault>
+    ensures { result ≡ spec.as_anchor at found }
+{
+    match found {
+        Ok(angle) => Ok(Anchor::Angle(angle.number)),
+        Err(other) => match other.code {
+            Code::Expression => Err(Fault::new(Code::NoAnchor, at)),
+            _ => Err(other),
+        },
+    }
+}
+
+/// The anchor of that name, if it is one.
+fn anchor_by_name(alloc: Global, list: &[Tok]) -> Result<Option<Anchor>, AllocError>
+    ensures { IfOk result (λ found. found ≡ spec.found_in anchors list.now) }
+{
+    match text_in(alloc, list)? {
+        Some(name) => Ok(anchor_named(&name)),
+        None => Ok(None),
+    }
+}
+
+/// The name of an anchor, or an angle.
+pub(crate) fn anchor_value(
+    alloc: Global,
+    value: Option<&[Tok]>,
+    font: FontUnits,
+    at: u32,
+) -> Result<Anchor, Refusal>
+    ensures { Gives (λ anchor. anchor) result (spec.anchor_value at evaluated font (option_copied value.entry)) }
+{
+    let Some(list) = value else {
+        return Err(Refusal::new(Code::ValueRequired, at));
+    };
+    match anchor_by_name(alloc, list)? {
+        Some(anchor) => Ok(anchor),
+        None => Ok(as_anchor(evaluate(list, font, at), at)?),
+    }
+}
+
+/// The tokens before a `)` that ends them.
+fn before_closing(list: &[Tok]) -> Option<&[Tok]>
+    ensures { option_map (λ before. before.now) result ≡ spec.before_closing list.now }
+{
+    let (last, before) = list.split_last()?;
+    if last.kind.is_char(')') {
+        Some(before)
+    } else {
+        None
+    }
+}
+
+/// The tokens between a `(` and a `)` that all of them stand in.
+fn between_parentheses(list: &[Tok]) -> Option<&[Tok]>
+    ensures { option_map (λ inner. inner.now) result ≡ spec.between_parentheses list.now }
+{
+    let (first, rest) = list.split_first()?;
+    if first.kind.is_char('(') {
+        before_closing(rest)
+    } else {
+        None
+    }
+}
+
+/// The numbers of a pair.
+fn numbers(list: &[Tok], font: FontUnits, at: u32) -> Result<Option<ValuePair>, Fault>
+    ensures { result ≡ paired evaluated font at list.now }
+{
+    pair(list, font, at)
+}
+
+/// The vector of a pair in parentheses, by the vectors of a look.
+#[tactic(auto, unfolding(crate::specs::Values::vector_value))]
+pub(crate) fn vector_value(
+    look: &Look,
+    list: &[Tok],
+    font: FontUnits,
+    at: u32,
+) -> Result<Point, Fault>
+    ensures { result ≡ spec.vector_value at evaluated font look.now list.now }
+{
+    let Some(text) = between_parentheses(trimmed(list)) else {
+        return Err(Fault::new(Code::Coordinate, at));
+    };
+    let Some(found) = numbers(text, font, at)? else {
+        return Err(Fault::new(Code::Coordinate, at));
+    };
+    vector(found, look.x, look.y, at)
+}
