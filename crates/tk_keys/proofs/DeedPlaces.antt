@@ -1,12 +1,13 @@
 -- What a part of a key list leaves: units that don't fall, the same counts of levels and key lists, a text that is paid for,
 -- and tokens and faults at places of the list and of the bodies.
-use Rattle.std.specs.Prelude.{◌≡◌, ℕ, ◌+◌, ◌<◌, ◌≤◌, ◌==◌, nat_lt, List, [], ◌∷◌, ◌++◌, length, unwrap_or, Option, Some, None, Ok, Err, IfOk, IfSome, option_map, option_and_then, codes}
+use Rattle.std.specs.Prelude.{◌≡◌, ℕ, ◌+◌, ◌<◌, ◌≤◌, ◌==◌, nat_lt, List, [], ◌∷◌, ◌++◌, length, unwrap_or, Option, Some, None, Ok, Err, IfOk, IfErr, IfSome, option_map, option_and_then, codes}
 use Rattle.std.proofs.Common.{◌∙◌, arith}
 use Rattle.std.specs.FinMap as map
 use Rattle.std.specs.List.{AllByRecursion}
 use Rattle.tk_characters.specs.Characters.{slash}
 use Rattle.tk_token.specs.declared.Code.{Code}
 use Rattle.tk_token.specs.declared.Code.TheVariants.{UnknownKey, UnknownChoice, ValueRequired}
+use Rattle.tk_token.specs.declared.Fault.{Fault}
 use Rattle.tk_token.specs.declared.Tok.{Tok}
 use Rattle.tk_token.specs.Answers.{Answer, ◌>>=◌, or_fault}
 use Rattle.tk_token.specs.Spaces.{after_spaces}
@@ -27,14 +28,18 @@ use Rattle.tk_keytext.specs.Entries.{edited}
 use Rattle.tk_keytext.specs.Handlers.{handler_of}
 use Rattle.tk_keytext.specs.Parts.{KeyPart}
 use Rattle.tk_keytext.specs.Paths.{full_path, name_in, parent_of}
-use Rattle.tk_keys.specs.Environment.{Env, Situation, with_units, with_text, with_key}
+use Rattle.tk_keys.specs.Environment.{Env, Situation, with_paid, with_text, with_graphics, with_key}
 use Rattle.tk_keys.specs.Given.{Given, also_word, current_key, current_name}
 use Rattle.tk_keys.specs.Keys as keys
-use Rattle.tk_keys.specs.Keys.{Deed, Effect, Named, done, run_at, value_by, all_taken, two_arguments, code_arguments, PaidText, code_text, runner, first_of, stand_in, unknown_code, unknown_below, staying, done_or_not, named, choose, run_key, use_by, use_entry, use_key, code_paid, edit_paid, edit, handle, announced, unknown, handle_or_unknown, used_or, key, part}
+use Rattle.tk_keys.specs.Keys.{Deed, Effect, Named, ExpandedValue, expanded_value, set_native, done, run_at, value_by, all_taken, two_arguments, code_arguments, PaidText, code_text, runner, first_of, stand_in, unknown_below, staying, done_or_not, expanded_name, choose, run_key, use_by, use_entry, use_key, code_paid, edit_paid, edit, handle, announced, unknown, handle_or_unknown, used_or, key, part}
 use Rattle.tk_keys.proofs.Entries.{RunAt, NeedAt, EntryAt, EnvAt, with_macro_at, with_entry_at, known_entry, text_stands, edited_at}
 use Rattle.tk_keys.proofs.PartPlaces.{PartAt}
 use Rattle.tk_keys.proofs.Spending.{full_spends}
-use Rattle.tk_keys.proofs.Standing.{then_at, if_at, both_at}
+use Rattle.tk_native.specs.declared.Native.{Native}
+use Rattle.tk_look.specs.declared.GraphicsState.{GraphicsState}
+use Rattle.tk_look.specs.Graphics.{graphics_by}
+use Rattle.tk_look.proofs.Places.{graphics_fine}
+use Rattle.tk_keys.proofs.Standing.{then_at, if_at, both_at, only_fault}
 
 module _ (P : ℕ → Type 0) where
   -- from one situation to a later one
@@ -89,19 +94,27 @@ module _ (P : ℕ → Type 0) where
   key_set_at s path entry h k =
       record { units = omega arith; levels = (λ _. s.env.levels); lists = (λ _. s.env.lists); env = with_entry_at P s.env path entry h k }
 
-  pub paid_later : (s : Situation) (units : ℕ) → s.units ≤ units → EnvAt P s.env → Later s (with_units s units)
+  pub paid_later : (s : Situation) (units : ℕ) → s.units ≤ units → EnvAt P s.env → Later s (with_paid s units)
   paid_later s units le h = record { units = le; levels = (λ _. s.env.levels); lists = (λ _. s.env.lists); env = h }
 
-  module _ (given : Given) where
+  -- what a part leaves
+  abbrev pub EffectAt : Given → Situation → Effect → Type 0
+  EffectAt given s e = DeedAt given.budget s e.deed
+
+  -- the faults of expressions stand at such places
+  abbrev pub EvaluatesAt : Given → Type 0
+  EvaluatesAt given = (at : ℕ) (list : List Tok) → P at → StandAt P list → IfErr (given.evaluate given.font at list) (λ (f : Fault). P f.at)
+
+  module _ (given : Given) (evaluates : EvaluatesAt given) where
     -- ---- names
 
-    pub named_at : (code : Code) (at : ℕ) (list : List Tok) (s : Situation) → P at → StandAt P list → EnvAt P s.env → Stands P (λ (n : Named). Later s n.now) (named given code at list s)
-    named_at code at list s p h env =
+    pub expanded_name_at : (code : Code) (at : ℕ) (list : List Tok) (s : Situation) → P at → StandAt P list → EnvAt P s.env → Stands P (λ (n : Named). Later s n.now) (expanded_name given code at list s)
+    expanded_name_at code at list s p h env =
         let from = stream s.units (unread list at) in
         then_at P (λ (r : Stream). StreamAt P r × (s.units ≤ r.units)) (λ (n : Named). Later s n.now) (full given.budget s.env.macros from) _ (both_at P (StreamAt P) (λ (r : Stream). s.units ≤ r.units) (full given.budget s.env.macros from) (full_at P given.budget s.env.macros env.bodies from h) (full_spends given.budget s.env.macros from)) (λ r k.
         by r k.1 (text_in r.list.rest))
       where
-        by : (r : Stream) → s.units ≤ r.units → (o : Option (List ℕ)) → Stands P (λ (n : Named). Later s n.now) (or_fault o code at >>= λ name. Ok (record { name = name; now = with_units s r.units }))
+        by : (r : Stream) → s.units ≤ r.units → (o : Option (List ℕ)) → Stands P (λ (n : Named). Later s n.now) (or_fault o code at >>= λ name. Ok (record { name = name; now = with_paid s r.units }))
         by r le None = p
         by r le (Some name) = paid_later s r.units le env
 
@@ -136,11 +149,32 @@ module _ (P : ℕ → Type 0) where
         let spent = m.1.0 in
         record { text = with_arguments_at P arguments body l h; spent = omega arith; within = m.1.1 }))
 
-    pub run_stands : (at : ℕ) (run : Run) (value : Option (List Tok)) (s : Situation) → P at → RunAt P run → IfSome value (StandAt P) → EnvAt P s.env → Stands P (DeedAt given.budget s) (keys.run given at run value s)
-    run_stands at (runs.Native n) value s p h k env = p
-    run_stands at runs.Choice value s p h k env = p
-    run_stands at (runs.StoreIn word) value s p h k env = done_at given.budget s (with_text s word (unwrap_or value [])) (text_set_at s word (unwrap_or value []) env (or_empty_at value k))
-    run_stands at (runs.Code args body) value s p h k env =
+    -- a value that is expanded, from so many units on
+    pub record ExpandedAt (before : ℕ) (e : ExpandedValue) : Type 0 where
+      pub value : IfSome e.value (StandAt P)
+      pub spent : before ≤ e.units
+
+    expanded_at : (at : ℕ) (value : Option (List Tok)) (s : Situation) → P at → IfSome value (StandAt P) → EnvAt P s.env → Stands P (ExpandedAt s.units) (expanded_value given at value s)
+    expanded_at at None s p h env = record { value = tt; spent = omega arith }
+    expanded_at at (Some list) s p h env =
+        let from = stream s.units (unread list at) in
+        then_at P (λ (r : Stream). StreamAt P r × (s.units ≤ r.units)) (ExpandedAt s.units) (full given.budget s.env.macros from) _ (both_at P (StreamAt P) (λ (r : Stream). s.units ≤ r.units) (full given.budget s.env.macros from) (full_at P given.budget s.env.macros env.bodies from h) (full_spends given.budget s.env.macros from)) (λ r k.
+        record { value = k.0; spent = k.1 })
+
+    graphics_later : (s : Situation) (units : ℕ) (graphics : GraphicsState) → s.units ≤ units → EnvAt P s.env → Later s (with_graphics (with_paid s units) graphics)
+    graphics_later s units graphics le h = record { units = le; levels = (λ _. s.env.levels); lists = (λ _. s.env.lists); env = record { bodies = h.bodies; entries = h.entries } }
+
+    native_at : (at : ℕ) (name : List ℕ) (key : Native) (value : Option (List Tok)) (s : Situation) → P at → IfSome value (StandAt P) → EnvAt P s.env → Stands P (DeedAt given.budget s) (set_native given at name key value s)
+    native_at at name key value s p h env =
+        then_at P (ExpandedAt s.units) (DeedAt given.budget s) (expanded_value given at value s) _ (expanded_at at value s p h env) (λ e k.
+        then_at P (λ _. Unit {0}) (DeedAt given.budget s) (graphics_by at given.evaluate given.font key name e.value s.env.graphics) _ (only_fault P (graphics_by at given.evaluate given.font key name e.value s.env.graphics) (graphics_fine P at p given.evaluate given.font (λ ts m. evaluates at ts p m) key name e.value s.env.graphics k.value)) (λ graphics _.
+        done_at given.budget s (with_graphics (with_paid s e.units) graphics) (graphics_later s e.units graphics k.spent env)))
+
+    pub run_stands : (at : ℕ) (name : List ℕ) (run : Run) (value : Option (List Tok)) (s : Situation) → P at → RunAt P run → IfSome value (StandAt P) → EnvAt P s.env → Stands P (DeedAt given.budget s) (keys.plain_run given at name run value s)
+    run_stands at name (runs.Native key) value s p h k env = native_at at name key value s p k env
+    run_stands at name runs.Choice value s p h k env = p
+    run_stands at name (runs.StoreIn word) value s p h k env = done_at given.budget s (with_text s word (unwrap_or value [])) (text_set_at s word (unwrap_or value []) env (or_empty_at value k))
+    run_stands at name (runs.Code args body) value s p h k env =
         then_at P (CodeAt s.units) (DeedAt given.budget s) (code_text given.budget at args body value s.units) _ (code_text_at at args body value s.units p h k) (λ paid m.
         record { now = paid_later s paid.units (let l = m.spent in omega arith) env; text = (m.text, (m.spent, m.within)) })
 
@@ -153,19 +187,19 @@ module _ (P : ℕ → Type 0) where
 
     choose_at : (at : ℕ) (path : List ℕ) (value : List Tok) (s : Situation) → P at → StandAt P value → EnvAt P s.env → Stands P (DeedAt given.budget s) (choose given at path value s)
     choose_at at path value s p h env =
-        then_at P (λ (n : Named). Later s n.now) (DeedAt given.budget s) (named given UnknownChoice at value s) _ (named_at UnknownChoice at value s p h env) (λ chosen k.
+        then_at P (λ (n : Named). Later s n.now) (DeedAt given.budget s) (expanded_name given UnknownChoice at value s) _ (expanded_name_at UnknownChoice at value s p h env) (λ chosen k.
         by chosen k (run_at chosen.now.env (path ++ slash ∷ chosen.name)) (run_at_stands chosen.now.env (path ++ slash ∷ chosen.name) k.env))
       where
-        by : (chosen : Named) → Later s chosen.now → (o : Option Run) → IfSome o (RunAt P) → Stands P (DeedAt given.budget s) (or_fault o UnknownChoice at >>= λ run. keys.run given at run None chosen.now)
+        by : (chosen : Named) → Later s chosen.now → (o : Option Run) → IfSome o (RunAt P) → Stands P (DeedAt given.budget s) (or_fault o UnknownChoice at >>= λ run. keys.plain_run given at (name_in (path ++ slash ∷ chosen.name)) run None chosen.now)
         by chosen k None l = p
-        by chosen k (Some run) l = deed_at given.budget s chosen.now (keys.run given at run None chosen.now) k (run_stands at run None chosen.now p l tt k.env)
+        by chosen k (Some run) l = deed_at given.budget s chosen.now (keys.plain_run given at (name_in (path ++ slash ∷ chosen.name)) run None chosen.now) k (run_stands at (name_in (path ++ slash ∷ chosen.name)) run None chosen.now p l tt k.env)
 
-    pub run_key_at : (at : ℕ) (path : List ℕ) (run : Run) (value : Option (List Tok)) (s : Situation) → P at → RunAt P run → IfSome value (StandAt P) → EnvAt P s.env → Stands P (DeedAt given.budget s) (run_key given at path run value s)
-    run_key_at at path runs.Choice (Some v) s p h k env = choose_at at path v s p k env
-    run_key_at at path runs.Choice None s p h k env = p
-    run_key_at at path (runs.Native n) value s p h k env = p
-    run_key_at at path (runs.StoreIn w) value s p h k env = run_stands at (runs.StoreIn w) value s p h k env
-    run_key_at at path (runs.Code args body) value s p h k env = run_stands at (runs.Code args body) value s p h k env
+    pub run_key_at : (at : ℕ) (path name : List ℕ) (run : Run) (value : Option (List Tok)) (s : Situation) → P at → RunAt P run → IfSome value (StandAt P) → EnvAt P s.env → Stands P (DeedAt given.budget s) (run_key given at path name run value s)
+    run_key_at at path name runs.Choice (Some v) s p h k env = choose_at at path v s p k env
+    run_key_at at path name runs.Choice None s p h k env = p
+    run_key_at at path name (runs.Native n) value s p h k env = run_stands at name (runs.Native n) value s p h k env
+    run_key_at at path name (runs.StoreIn w) value s p h k env = run_stands at name (runs.StoreIn w) value s p h k env
+    run_key_at at path name (runs.Code args body) value s p h k env = run_stands at name (runs.Code args body) value s p h k env
 
     -- ---- entries
 
@@ -184,7 +218,7 @@ module _ (P : ℕ → Type 0) where
     use_by_at : (at : ℕ) (path : List ℕ) (entry : Entry) (run : Option Run) (stored value : Option (List Tok)) (s : Situation) → P at → EntryAt P entry → IfSome run (RunAt P) → IfSome value (StandAt P) → EnvAt P s.env → Stands P (UsedAt s) (use_by given at path entry run stored value s)
     use_by_at at path entry (Some run) stored value s p h l k env =
         then_at P (λ taken. IfSome taken (StandAt P)) (UsedAt s) (value_by at entry.need value) _ (value_at at entry.need value p h.need k) (λ taken m.
-        then_at P (DeedAt given.budget s) (UsedAt s) (run_key given at path run taken s) _ (run_key_at at path run taken s p l m env) (λ deed d. d))
+        then_at P (DeedAt given.budget s) (UsedAt s) (run_key given at path (name_in path) run taken s) _ (run_key_at at path (name_in path) run taken s p l m env) (λ deed d. d))
     use_by_at at path entry None (Some old) value s p h l k env =
         then_at P (λ taken. IfSome taken (StandAt P)) (UsedAt s) (value_by at entry.need value) _ (value_at at entry.need value p h.need k) (λ taken m. by taken m)
       where
@@ -236,20 +270,16 @@ module _ (P : ℕ → Type 0) where
     edit_at at handler path value s p k env =
         then_at P (EntryAt P) (DeedAt given.budget s) (edited (also_word given) at handler (map.get s.env.keys path) value) _ (edited_at P (also_word given) at p handler (map.get s.env.keys path) value (known_entry P s.env.keys path env.entries) k) (λ entry h.
         then_at P (PaidFrom s.units) (DeedAt given.budget s) (edit_paid given at handler entry.run s.units) _ (edit_paid_at at handler entry.run s.units p) (λ now le.
-        done_at given.budget s (with_key (with_units s now) path entry) (later_then s (with_units s now) (with_key (with_units s now) path entry) (paid_later s now le env) (key_set_at (with_units s now) path entry env h))))
+        done_at given.budget s (with_key (with_paid s now) path entry) (later_then s (with_paid s now) (with_key (with_paid s now) path entry) (paid_later s now le env) (key_set_at (with_paid s now) path entry env h))))
 
-    -- what a part leaves
-    abbrev pub EffectAt : Situation → Effect → Type 0
-    EffectAt s e = DeedAt given.budget s e.deed
-
-    staying_at : (dir : List ℕ) (m : Answer Deed) (s : Situation) → Stands P (DeedAt given.budget s) m → Stands P (EffectAt s) (staying dir m)
-    staying_at dir m s h = then_at P (DeedAt given.budget s) (EffectAt s) m _ h (λ deed k. k)
+    staying_at : (dir : List ℕ) (m : Answer Deed) (s : Situation) → Stands P (DeedAt given.budget s) m → Stands P (EffectAt given s) (staying dir m)
+    staying_at dir m s h = then_at P (DeedAt given.budget s) (EffectAt given s) m _ h (λ deed k. k)
 
     or_not_at : (s : Situation) (used : Option Deed) → EnvAt P s.env → UsedAt s used → DeedAt given.budget s (done_or_not s used)
     or_not_at s None env h = done_at given.budget s s (same_later s env)
     or_not_at s (Some deed) env h = h
 
-    handle_at : (at : ℕ) (handler : Handler) (path : List ℕ) (value : Option (List Tok)) (dir : List ℕ) (s : Situation) → P at → IfSome value (StandAt P) → EnvAt P s.env → Stands P (EffectAt s) (handle given at handler path value dir s)
+    handle_at : (at : ℕ) (handler : Handler) (path : List ℕ) (value : Option (List Tok)) (dir : List ℕ) (s : Situation) → P at → IfSome value (StandAt P) → EnvAt P s.env → Stands P (EffectAt given s) (handle given at handler path value dir s)
     handle_at at Cd path value dir s p k env = done_at given.budget s s (same_later s env)
     handle_at at Try path value dir s p k env =
         staying_at dir _ s (then_at P (UsedAt s) (DeedAt given.budget s) (use_key given at path value s) _ (use_key_at at path value s p k env) (λ used h. or_not_at s used env h))
@@ -289,30 +319,30 @@ module _ (P : ℕ → Type 0) where
     unknown_at at path value s p k env =
         by (stand_in s.env path) (first_stands (runner s.env (unknown_below (parent_of path))) (runner s.env (unknown_below (codes "/handlers"))) (runner_at s.env (unknown_below (parent_of path)) env) (runner_at s.env (unknown_below (codes "/handlers")) env))
       where
-        by : (o : Option (List ℕ × Run)) → IfSome o (λ r. RunAt P r.1) → Stands P (DeedAt given.budget s) (or_fault o (unknown_code path) at >>= λ other. run_key given at other.0 other.1 value (announced given at path s))
+        by : (o : Option (List ℕ × Run)) → IfSome o (λ r. RunAt P r.1) → Stands P (DeedAt given.budget s) (or_fault o UnknownKey at >>= λ other. run_key given at other.0 (name_in path) other.1 value (announced given at path s))
         by None h = p
         by (Some other) h =
             let f = announced_at at path s p env in
-            deed_at given.budget s (announced given at path s) (run_key given at other.0 other.1 value (announced given at path s)) f (run_key_at at other.0 other.1 value (announced given at path s) p h k f.env)
+            deed_at given.budget s (announced given at path s) (run_key given at other.0 (name_in path) other.1 value (announced given at path s)) f (run_key_at at other.0 (name_in path) other.1 value (announced given at path s) p h k f.env)
 
-    handled_or_at : (at : ℕ) (handler : Option Handler) (path : List ℕ) (value : Option (List Tok)) (dir : List ℕ) (s : Situation) → P at → IfSome value (StandAt P) → EnvAt P s.env → Stands P (EffectAt s) (handle_or_unknown given at handler path value dir s)
+    handled_or_at : (at : ℕ) (handler : Option Handler) (path : List ℕ) (value : Option (List Tok)) (dir : List ℕ) (s : Situation) → P at → IfSome value (StandAt P) → EnvAt P s.env → Stands P (EffectAt given s) (handle_or_unknown given at handler path value dir s)
     handled_or_at at (Some handler) path value dir s p k env = handle_at at handler (parent_of path) value dir s p k env
     handled_or_at at None path value dir s p k env = staying_at dir _ s (unknown_at at path value s p k env)
 
-    used_or_at : (at : ℕ) (used : Option Deed) (path : List ℕ) (value : Option (List Tok)) (dir : List ℕ) (s : Situation) → P at → IfSome value (StandAt P) → EnvAt P s.env → UsedAt s used → Stands P (EffectAt s) (used_or given at used path value dir s)
+    used_or_at : (at : ℕ) (used : Option Deed) (path : List ℕ) (value : Option (List Tok)) (dir : List ℕ) (s : Situation) → P at → IfSome value (StandAt P) → EnvAt P s.env → UsedAt s used → Stands P (EffectAt given s) (used_or given at used path value dir s)
     used_or_at at (Some deed) path value dir s p k env h = h
     used_or_at at None path value dir s p k env h = handled_or_at at (handler_of (name_in path)) path value dir s p k env
 
-    key_at : (at : ℕ) (path : List ℕ) (value : Option (List Tok)) (dir : List ℕ) (s : Situation) → P at → IfSome value (StandAt P) → EnvAt P s.env → Stands P (EffectAt s) (key given at path value dir s)
+    key_at : (at : ℕ) (path : List ℕ) (value : Option (List Tok)) (dir : List ℕ) (s : Situation) → P at → IfSome value (StandAt P) → EnvAt P s.env → Stands P (EffectAt given s) (key given at path value dir s)
     key_at at path value dir s p k env =
-        then_at P (UsedAt s) (EffectAt s) (use_key given at path value s) _ (use_key_at at path value s p k env) (λ used h. used_or_at at used path value dir s p k env h)
+        then_at P (UsedAt s) (EffectAt given s) (use_key given at path value s) _ (use_key_at at path value s p k env) (λ used h. used_or_at at used path value dir s p k env h)
 
-    effect_later : (s r : Situation) (m : Answer Effect) → Later s r → Stands P (EffectAt r) m → Stands P (EffectAt s) m
+    effect_later : (s r : Situation) (m : Answer Effect) → Later s r → Stands P (EffectAt given r) m → Stands P (EffectAt given s) m
     effect_later s r (Ok e) f g = deed_later given.budget s r e.deed f g
     effect_later s r (Err e) f g = g
 
-    pub part_at : (p : KeyPart) (dir : List ℕ) (s : Situation) → PartAt P p → EnvAt P s.env → Stands P (EffectAt s) (part given p dir s)
+    pub part_at : (p : KeyPart) (dir : List ℕ) (s : Situation) → PartAt P p → EnvAt P s.env → Stands P (EffectAt given s) (part given p dir s)
     unfolding part
     part_at p dir s h env =
-        then_at P (λ (n : Named). Later s n.now) (EffectAt s) (named given UnknownKey p.at p.name s) _ (named_at UnknownKey p.at p.name s h.at h.name env) (λ name k.
+        then_at P (λ (n : Named). Later s n.now) (EffectAt given s) (expanded_name given UnknownKey p.at p.name s) _ (expanded_name_at UnknownKey p.at p.name s h.at h.name env) (λ name k.
         effect_later s name.now (key given p.at (full_path dir name.name) p.value dir name.now) k (key_at p.at (full_path dir name.name) p.value dir name.now h.at h.value k.env))

@@ -93,7 +93,7 @@ module _ (P : ℕ → Type 0) where
   -- ---- what handlers make
 
   module _ (also at : ℕ) (p : P at) where
-    also_at : (list : List Tok) → StandAt P list → StandAt P (also_keys also at list)
+    pub also_at : (list : List Tok) → StandAt P list → StandAt P (also_keys also at list)
     also_at list h = (p, (p, joined_at P list _ h (p, tt)))
 
     coded_at : (args : ℕ) (written : List Tok) → StandAt P written → Stands P RunAt (coded args written)

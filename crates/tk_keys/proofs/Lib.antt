@@ -10,4 +10,6 @@ pub mod Reading
 pub mod Sets
 pub mod Spending
 pub mod Standing
+pub mod Tables
 pub mod Words
+pub mod Beginning

@@ -16,15 +16,15 @@ use Rattle.tk_keytext.specs.Parts.{KeyPart}
 use Rattle.tk_keys.specs.declared.deeds.Deed as code
 use Rattle.tk_keys.specs.Given.{Given}
 use Rattle.tk_keys.specs.Keys.{part}
-use Rattle.tk_keys.specs.Settings.{Ending, Standing, standing, Set, set_behind, Runnable, set, set_alone, one_setting, with_stream, Some_settings, set_or_group, setting_of, settings_from, part_run, parts, runs}
+use Rattle.tk_keys.specs.Settings.{Ending, Standing, standing, Set, set_behind, Runnable, set, set_alone, one_setting, standing_behind, Some_settings, set_or_group, setting_of, settings_from, part_run, parts, runs}
 use Rattle.tk_keys.specs.State.{State, env_of, given_of, stream_of, situation_of, standing_of, ending_of, Pays, Keeps, behind_set}
 use Rattle.tk_keys.specs.Views.{effect_of}
 use Rattle.tk_keys.proofs.DeedPlaces.{TextAt, EffectAt, part_at}
-use Rattle.tk_keys.proofs.Ran.{Any, any_part, any_env, run_is}
+use Rattle.tk_keys.proofs.Ran.{Any, any_part, any_env, any_evaluates, run_is}
 use Rattle.tk_keys.proofs.Standing.{ok_at}
 
 pub keeps_then : (a b c : State) → Keeps a b → Keeps b c → Keeps a c
-keeps_then a b c f g = record { names = g.names ∙ f.names; font = g.font ∙ f.font; budget = g.budget ∙ f.budget; outer = g.outer ∙ f.outer; lists = g.lists ∙ f.lists }
+keeps_then a b c f g = record { names = g.names ∙ f.names; font = g.font ∙ f.font; budget = g.budget ∙ f.budget; outer = g.outer ∙ f.outer; saved = g.saved ∙ f.saved; lists = g.lists ∙ f.lists }
 
 pub pays_keeps : (a b : State) → Pays a b → Keeps a b
 pays_keeps a b p = record {
@@ -32,6 +32,7 @@ pays_keeps a b p = record {
   font = ap (λ (s : State). s.font) p;
   budget = ap (λ (s : State). s.budget) p;
   outer = ap (λ (s : State). s.levels.outer) p;
+  saved = ap (λ (s : State). s.saved) p;
   lists = ap (λ (s : State). s.lists) p;
 }
 
@@ -50,7 +51,7 @@ module _ (old now : State) (kept : Keeps old now) (dir : List ℕ) (list : Unrea
   abbrev ahead : Answer Next
   ahead = next now.budget (env_of now).macros (stream_of now list)
 
-  starts : run_here ≡ (ahead >>= λ n. settings_from (given_at now) (runs (given_at now)) n.token (with_stream (standing_of now dir list) n.stream))
+  starts : run_here ≡ (ahead >>= λ n. settings_from (given_at now) (runs (given_at now)) n.token (standing_behind (standing_of now dir list) n.stream))
   starts = ap (λ (g : Given). runs g (Some_settings (standing_of now dir list))) (sym (given_same old now kept)) ∙ run_is (given_at now) (Some_settings (standing_of now dir list))
 
   pub next_fails : (e : Refusal) → Fails e ahead → Fails e run_here
@@ -63,7 +64,7 @@ module _ (old now : State) (kept : Keeps old now) (dir : List ℕ) (list : Unrea
     pub text_ends : ahead ≡ Ok (taken None (stream_of paid behind)) → run_here ≡ Ok (ending_of paid dir)
     text_ends h =
         starts
-        ∙ then_is ahead (λ n. settings_from (given_at now) (runs (given_at now)) n.token (with_stream (standing_of now dir list) n.stream)) (taken None (stream_of paid behind)) h
+        ∙ then_is ahead (λ n. settings_from (given_at now) (runs (given_at now)) n.token (standing_behind (standing_of now dir list) n.stream)) (taken None (stream_of paid behind)) h
         ∙ ap ended (sym pays)
 
     module _ (t : Tok) (h : ahead ≡ Ok (taken (Some t) (stream_of paid behind))) where
@@ -73,7 +74,7 @@ module _ (old now : State) (kept : Keeps old now) (dir : List ℕ) (list : Unrea
       first_set : run_here ≡ (set_from paid >>= λ st. runs (given_at now) (Some_settings st))
       first_set =
           starts
-          ∙ then_is ahead (λ n. settings_from (given_at now) (runs (given_at now)) n.token (with_stream (standing_of now dir list) n.stream)) (taken (Some t) (stream_of paid behind)) h
+          ∙ then_is ahead (λ n. settings_from (given_at now) (runs (given_at now)) n.token (standing_behind (standing_of now dir list) n.stream)) (taken (Some t) (stream_of paid behind)) h
           ∙ ap (λ (s : State). set_from s >>= λ st. runs (given_at now) (Some_settings st)) (sym pays)
 
       pub text_goes_on : (new : State) (last : List ℕ) (rest : Unread) → set_or_group (given_at paid) (runs (given_at paid)) (setting_of paid.names t.kind) t (standing_of paid dir behind) ≡ Ok (standing_of new last rest) → run_here ≡ runs (given_at old) (Some_settings (standing_of new last rest))
@@ -116,7 +117,7 @@ parts_end old now dir ps none = ap (λ (ps : List KeyPart). parts (given_at old)
 -- the text that a part leaves was paid for
 pub text_paid : (old new : State) (p : KeyPart) (dir last : List ℕ) (deed : code.Deed) (text : List Tok) → part (given_at old) p dir (situation_of old) ≡ Ok (effect_of deed new last) → deed.text ≡ Some text → (old.units + length text < new.units) × (new.units ≤ old.budget)
 text_paid old new p dir last deed text is some =
-    let k : EffectAt Any (given_at old) (situation_of old) (effect_of deed new last) = known_of (EffectAt Any (given_at old) (situation_of old)) (part (given_at old) p dir (situation_of old)) (effect_of deed new last) is (ok_at Any (EffectAt Any (given_at old) (situation_of old)) (part (given_at old) p dir (situation_of old)) (part_at Any (given_at old) p dir (situation_of old) (any_part p) (any_env (env_of old)))) in
+    let k : EffectAt Any (given_at old) (situation_of old) (effect_of deed new last) = known_of (EffectAt Any (given_at old) (situation_of old)) (part (given_at old) p dir (situation_of old)) (effect_of deed new last) is (ok_at Any (EffectAt Any (given_at old) (situation_of old)) (part (given_at old) p dir (situation_of old)) (part_at Any (given_at old) (any_evaluates (given_at old)) p dir (situation_of old) (any_part p) (any_env (env_of old)))) in
     let t : TextAt Any old.budget old.units new.units (Some text) = subst (λ (o : Option (List Tok)). TextAt Any old.budget old.units new.units o) some k.text in
     t.1
 

@@ -34,7 +34,7 @@ module _ (P : ℕ → Type 0) where
   unfolding before_spaces
   before_at ts h = front_at (length ts - suffix_len is_space_token ts) ts h
 
-  trimmed_at : (ts : List Tok) → StandAt P ts → StandAt P (trimmed ts)
+  pub trimmed_at : (ts : List Tok) → StandAt P ts → StandAt P (trimmed ts)
   trimmed_at ts h = before_at (after_spaces ts) (spaces_at ts h)
 
   alone_at : (o : Option Cut) → IfSome o (CutAt P) → IfSome (alone o) (StandAt P)

@@ -26,15 +26,15 @@ use Rattle.tk_keytext.specs.Parts.{KeyPart, parts_of}
 use Rattle.tk_keys.specs.declared.setting.Origin.{Origin}
 use Rattle.tk_keys.specs.declared.setting.Setting.{Setting}
 use Rattle.tk_keys.specs.declared.setting.Setting.TheVariants.{Nothing, Define, Keys, SetValue, GetValue, SetNumber, SetWhole}
-use Rattle.tk_keys.specs.Environment.{Env, level, inner_list, Situation, with_units}
+use Rattle.tk_keys.specs.Environment.{Env, level, inner_list, Situation, with_paid}
 use Rattle.tk_keys.specs.Given.{Given}
 use Rattle.tk_keys.specs.Keys.{part}
-use Rattle.tk_keys.specs.Settings.{Ending, with_lists, Standing, standing, stream_at, with_stream, argument, begins_at, dir_behind, Runnable, A_key_list, Some_settings, set_keys, set, group, set_or_group, setting_of, settings_from, all_settings, text_run, part_run, parts, key_list, run_step, work_of, runs, set_alone, one_setting}
-use Rattle.tk_keys.proofs.DeedPlaces.{Later, TextAt, EffectAt, part_at}
+use Rattle.tk_keys.specs.Settings.{Ending, with_lists, Standing, standing, stream_here, standing_behind, argument, begins_at, dir_behind, Runnable, A_key_list, Some_settings, set_keys, set, group, set_or_group, setting_of, settings_from, all_settings, text_run, part_run, parts, key_list, run_step, work_of, runs, set_alone, one_setting}
+use Rattle.tk_keys.proofs.DeedPlaces.{EvaluatesAt, Later, TextAt, EffectAt, part_at}
 use Rattle.tk_keys.proofs.Entries.{RunAt, NeedAt, EntryAt, EnvAt}
 use Rattle.tk_keys.proofs.PartPlaces.{PartAt}
 use Rattle.tk_keys.proofs.Pinned.{IsPinned, is_its_step, is_never_stuck}
-use Rattle.tk_keys.proofs.Sets.{EvaluatesAt, ListAt, SetAt, set_at, ArgumentAt, StandingAt, argument_stands, RunnableAt, EndingAt, set_or_group_at, part_run_at, step_at}
+use Rattle.tk_keys.proofs.Sets.{ListAt, SetAt, set_at, ArgumentAt, StandingAt, argument_stands, RunnableAt, EndingAt, set_or_group_at, part_run_at, step_at}
 use Rattle.tk_keys.proofs.Standing.{then_at, ok_at, any_value}
 
 -- ---- at any place
@@ -122,7 +122,7 @@ module _ (given : Given) (f : Runnable → Answer Ending) (n : ℕ) (same : (job
   group_alike at st lt =
       then_alike (λ (c : Cut). length c.front + length c.rest < length st.list.rest) (or_fault (group_of st.list.rest) NotASetting at) _ _ (or_fault_holds (λ (c : Cut). length c.front + length c.rest < length st.list.rest) (group_of st.list.rest) NotASetting at (group_shorter st.list.rest)) (λ c short.
       then_alike (λ _. Unit {0}) (level at st.now.env) _ _ (any_value (level at st.now.env)) (λ inside _.
-      ap (λ (m : Answer Ending). m >>= λ after. Ok (standing (with_units st.now after.now.units) st.dir (unread c.rest st.list.end))) (same (Some_settings (standing (record st.now { env = inside }) st.dir (unread c.front (end_of at c.front)))) (omega arith))))
+      ap (λ (m : Answer Ending). m >>= λ after. Ok (standing (with_paid st.now after.now.units) st.dir (unread c.rest st.list.end))) (same (Some_settings (standing (record st.now { env = inside }) st.dir (unread c.front (end_of at c.front)))) (omega arith))))
 
   set_or_group_alike : (setting : Option Setting) (t : Tok) (st : Standing) → Left st < n → set_or_group given f setting t st ≡ set_or_group given (runs given) setting t st
   set_or_group_alike (Some setting) t st lt = set_alike setting t.at st lt
@@ -140,9 +140,9 @@ module _ (given : Given) (f : Runnable → Answer Ending) (n : ℕ) (same : (job
 
   all_settings_alike : (st : Standing) → Left st ≤ n → all_settings given f st ≡ all_settings given (runs given) st
   all_settings_alike st le =
-      then_alike (Takes given.budget (stream_at st)) (next given.budget st.now.env.macros (stream_at st)) _ _ (next_takes given.budget st.now.env.macros (stream_at st)) (λ ahead k.
+      then_alike (Takes given.budget (stream_here st)) (next given.budget st.now.env.macros (stream_here st)) _ _ (next_takes given.budget st.now.env.macros (stream_here st)) (λ ahead k.
       let fell = k.work_falls in
-      settings_from_alike ahead.token (with_stream st ahead.stream) (omega arith))
+      settings_from_alike ahead.token (standing_behind st ahead.stream) (omega arith))
 
   text_run_alike : (at : ℕ) (text : Option (List Tok)) (dir : List ℕ) (s : Situation) (before : ℕ) → given.budget - before ≤ n → TextAt Any given.budget before s.units text → text_run given f at text dir s ≡ text_run given (runs given) at text dir s
   text_run_alike at None dir s before le h = refl
@@ -153,7 +153,7 @@ module _ (given : Given) (f : Runnable → Answer Ending) (n : ℕ) (same : (job
 
   part_run_alike : (p : KeyPart) (dir : List ℕ) (s : Situation) → given.budget - s.units ≤ n → part_run given f p dir s ≡ part_run given (runs given) p dir s
   part_run_alike p dir s le =
-      then_alike (EffectAt Any given s) (part given p dir s) _ _ (ok_at Any (EffectAt Any given s) (part given p dir s) (part_at Any given p dir s (any_part p) (any_env s.env))) (λ effect k.
+      then_alike (EffectAt Any given s) (part given p dir s) _ _ (ok_at Any (EffectAt Any given s) (part given p dir s) (part_at Any given (any_evaluates given) p dir s (any_part p) (any_env s.env))) (λ effect k.
       text_run_alike p.at effect.deed.text effect.dir effect.deed.now s.units le k.text)
 
   parts_alike : (ps : List KeyPart) (dir : List ℕ) (s : Situation) → given.budget - s.units ≤ n → parts given f ps dir s ≡ parts given (runs given) ps dir s

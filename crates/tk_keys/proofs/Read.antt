@@ -16,8 +16,8 @@ use Rattle.tk_expr.specs.Evaluated.{evaluated}
 use Rattle.tk_expr.specs.Evaluates.{Evaluates}
 use Rattle.tk_expr.proofs.OneAnswer.{a_text_has_one_answer}
 use Rattle.tk_expr.proofs.Runs.{evaluated_is_the_answer}
-use Rattle.tk_keys.specs.Settings.{Number, number}
-use Rattle.tk_keys.specs.Views.{expanded_text, number_by, given_by, situation_by}
+use Rattle.tk_keys.specs.Settings.{ExpressionValue, expression_value}
+use Rattle.tk_keys.specs.Views.{expanded_text, value_behind, given_by, situation_by}
 
 -- where nothing in a list calls, it is its own expansion
 pub text_own : (budget : ℕ) (macros : Macros) (units at : ℕ) (list : List Tok) (text : Option (List ℕ)) → true ≡ is_expanded macros list → text ≡ text_in list → expanded_text budget macros units at list ≡ Ok (text, units)
@@ -30,16 +30,16 @@ evaluated_is : (font : FontUnits) (at : ℕ) (toks : List Tok) (answer : Answer 
 evaluated_is font at toks answer is = a_text_has_one_answer font at toks (evaluated font at toks) answer (evaluated_is_the_answer font at toks) is
 
 module _ (font : FontUnits) (budget : ℕ) (macros : Macros) (before at : ℕ) (list text toks : List Tok) (units : ℕ) (full_is : full budget macros (stream before (unread list at)) ≡ Ok (stream units (unread text at))) (same : toks ≡ text) where
-  abbrev found_in : Stream → Answer Number
-  found_in r = evaluated font at r.list.rest >>= λ found. Ok (number_by found.number r.units)
+  abbrev found_in : Stream → Answer ExpressionValue
+  found_in r = evaluated font at r.list.rest >>= λ found. Ok (value_behind found.number r.units)
 
-  number_from : number (given_by font budget) at list (situation_by macros before) ≡ found_in (stream units (unread toks at))
+  number_from : expression_value (given_by font budget) at list (situation_by font macros before) ≡ found_in (stream units (unread toks at))
   number_from =
       then_is (full budget macros (stream before (unread list at))) found_in (stream units (unread text at)) full_is
       ∙ ap (λ (ts : List Tok). found_in (stream units (unread ts at))) (sym same)
 
-  pub number_found : (found : Value) → Evaluates font at toks (Ok found) → number (given_by font budget) at list (situation_by macros before) ≡ Ok (number_by found.number units)
-  number_found found is = number_from ∙ ap (λ (a : Answer Value). a >>= λ found. (let answer : Answer Number = Ok (number_by found.number units) in answer)) (evaluated_is font at toks (Ok found) is)
+  pub number_found : (found : Value) → Evaluates font at toks (Ok found) → expression_value (given_by font budget) at list (situation_by font macros before) ≡ Ok (value_behind found.number units)
+  number_found found is = number_from ∙ ap (λ (a : Answer Value). a >>= λ found. (let answer : Answer ExpressionValue = Ok (value_behind found.number units) in answer)) (evaluated_is font at toks (Ok found) is)
 
-  pub number_fails : (fault : Fault) → Evaluates font at toks (Err fault) → number (given_by font budget) at list (situation_by macros before) ≡ Err fault
-  number_fails fault is = number_from ∙ ap (λ (a : Answer Value). a >>= λ found. (let answer : Answer Number = Ok (number_by found.number units) in answer)) (evaluated_is font at toks (Err fault) is)
+  pub number_fails : (fault : Fault) → Evaluates font at toks (Err fault) → expression_value (given_by font budget) at list (situation_by font macros before) ≡ Err fault
+  number_fails fault is = number_from ∙ ap (λ (a : Answer Value). a >>= λ found. (let answer : Answer ExpressionValue = Ok (value_behind found.number units) in answer)) (evaluated_is font at toks (Err fault) is)

@@ -1,11 +1,10 @@
 -- What settings and key lists leave, over runs of which the same is known: units that don't fall, no more tokens, the same
 -- counts of levels and key lists, and tokens and faults at places of the list and of the bodies.
-use Rattle.std.specs.Prelude.{◌≡◌, ℕ, suc, ◌+◌, ◌<◌, ◌≤◌, nat_lt, Bool, true, false, if◌then◌else◌, List, [], ◌∷◌, length, unwrap_or, Option, Some, None, Ok, Err, IfErr, IfSome, ℤ, option_and_then}
+use Rattle.std.specs.Prelude.{◌≡◌, ℕ, suc, ◌+◌, ◌<◌, ◌≤◌, nat_lt, Bool, true, false, if◌then◌else◌, List, [], ◌∷◌, length, unwrap_or, Option, Some, None, Ok, IfSome, ℤ, option_and_then}
 use Rattle.std.proofs.Common.{sym, subst, ◌∙◌, arith}
 use Rattle.std.specs.FinMap as map
 use Rattle.tk_num.specs.Text.{pointed_text}
 use Rattle.tk_token.specs.declared.Code.TheVariants.{MacroArg, MacroSyntax, UnknownKey, NotASetting, KeyDepth}
-use Rattle.tk_token.specs.declared.Fault.{Fault}
 use Rattle.tk_token.specs.declared.Tok.{Tok}
 use Rattle.tk_token.specs.Answers.{Answer, ◌>>=◌, fault, or_fault}
 use Rattle.tk_token.specs.Groups.{Cut, group_of}
@@ -30,20 +29,16 @@ use Rattle.tk_keytext.specs.Parts.{KeyPart, parts_of}
 use Rattle.tk_keys.specs.declared.setting.Origin.{Origin}
 use Rattle.tk_keys.specs.declared.setting.Setting.{Setting}
 use Rattle.tk_keys.specs.declared.setting.Setting.TheVariants.{Nothing, Define, Keys, SetValue, GetValue, SetNumber, SetWhole}
-use Rattle.tk_keys.specs.Environment.{Env, level, Situation, with_units, with_text}
+use Rattle.tk_keys.specs.Environment.{Env, level, Situation, with_paid, with_text}
 use Rattle.tk_keys.specs.Given.{Given}
-use Rattle.tk_keys.specs.Keys.{Named, named, part}
-use Rattle.tk_keys.specs.Settings.{Ending, with_lists, Standing, standing, stream_at, with_stream, Set, with_dir, argument, word_argument, begins_at, stored_at, with_value, whole_text, KeyRead, Number, number, Runnable, A_key_list, Some_settings, define, key_argument, set_value, get_value, set_number, set_keys, set, group, set_or_group, setting_of, settings_from, all_settings, text_run, part_run, parts, key_list, run_step}
+use Rattle.tk_keys.specs.Keys.{Named, expanded_name, part}
+use Rattle.tk_keys.specs.Settings.{Ending, with_lists, Standing, standing, stream_here, standing_behind, Set, with_dir, argument, word_argument, begins_at, stored_at, with_value, whole_text, KeyRead, ExpressionValue, expression_value, Runnable, A_key_list, Some_settings, define, key_argument, set_value, get_value, set_number, set_keys, set, group, set_or_group, setting_of, settings_from, all_settings, text_run, part_run, parts, key_list, run_step}
 use Rattle.tk_keys.proofs.Defining.{DefinedWithin, defined_within}
-use Rattle.tk_keys.proofs.DeedPlaces.{Later, same_later, later_then, TextAt, text_set_at, key_set_at, paid_later, named_at, EffectAt, part_at}
+use Rattle.tk_keys.proofs.DeedPlaces.{Later, same_later, later_then, TextAt, text_set_at, key_set_at, paid_later, expanded_name_at, EffectAt, EvaluatesAt, part_at}
 use Rattle.tk_keys.proofs.Entries.{EntryAt, EnvAt, with_macro_at, known_entry, or_nothing_at, text_stands}
 use Rattle.tk_keys.proofs.PartPlaces.{PartAt, AllParts, parts_at}
 use Rattle.tk_keys.proofs.Spending.{full_spends}
-use Rattle.tk_keys.proofs.Standing.{then_at, if_at, both_at, or_at, weaker_at}
-
--- the faults of expressions stand at such places
-abbrev pub EvaluatesAt : (ℕ → Type 0) → Given → Type 0
-EvaluatesAt P given = (at : ℕ) (list : List Tok) → P at → StandAt P list → IfErr (given.evaluate given.font at list) (λ (f : Fault). P f.at)
+use Rattle.tk_keys.proofs.Standing.{then_at, if_at, both_at, only_fault, or_at, weaker_at}
 
 module _ (P : ℕ → Type 0) where
   -- from one place of a list to a later one
@@ -110,7 +105,7 @@ module _ (P : ℕ → Type 0) where
     key_read_at : (at : ℕ) (dir : List ℕ) (s : Situation) (list : Unread) → P at → EnvAt P s.env → StandAt P list.rest → Stands P (KeyReadAt s list) (key_argument given at dir s list)
     key_read_at at dir s list p env h =
         then_at P (ArgumentAt list) (KeyReadAt s list) (argument at list) _ (argument_stands at list p h) (λ text k.
-        then_at P (λ (n : Named). Later P s n.now) (KeyReadAt s list) (named given UnknownKey at text.value s) _ (named_at P given UnknownKey at text.value s p k.value env) (λ name m.
+        then_at P (λ (n : Named). Later P s n.now) (KeyReadAt s list) (expanded_name given UnknownKey at text.value s) _ (expanded_name_at P given evaluates UnknownKey at text.value s p k.value env) (λ name m.
         record { now = m; list = k.list }))
 
     set_value_at : (at : ℕ) (dir : List ℕ) (s : Situation) (list : Unread) → P at → EnvAt P s.env → StandAt P list.rest → Stands P (SetAt s list) (set_value given at dir s list)
@@ -135,26 +130,22 @@ module _ (P : ℕ → Type 0) where
         then_at P (λ (r : Read ℕ). Behind key.list r.list) (SetAt s list) (word_argument at key.list) _ (word_stands at key.list p k.list.rest) (λ word m.
         record { now = later_then P s key.now (with_text key.now word.value value) k.now (text_set_at P key.now word.value value k.now.env v); list = behind_then list key.list word.list k.list m })))
 
-    only_at : {A : Type 0} (m : Answer A) → IfErr m (λ (f : Fault). P f.at) → Stands P (λ _. Unit {0}) m
-    only_at (Ok a) h = tt
-    only_at (Err f) h = h
-
-    pub record NumberAt (before : ℕ) (n : Number) : Type 0 where
+    pub record NumberAt (before : ℕ) (n : ExpressionValue) : Type 0 where
       pub spent : before ≤ n.units
 
-    number_at : (at : ℕ) (list : List Tok) (s : Situation) → P at → EnvAt P s.env → StandAt P list → Stands P (NumberAt s.units) (number given at list s)
-    number_at at list s p env h =
+    expression_value_at : (at : ℕ) (list : List Tok) (s : Situation) → P at → EnvAt P s.env → StandAt P list → Stands P (NumberAt s.units) (expression_value given at list s)
+    expression_value_at at list s p env h =
         let from = stream s.units (unread list at) in
         then_at P (λ (r : Stream). StreamAt P r × (s.units ≤ r.units)) (NumberAt s.units) (full given.budget s.env.macros from) _ (both_at P (StreamAt P) (λ (r : Stream). s.units ≤ r.units) (full given.budget s.env.macros from) (full_at P given.budget s.env.macros env.bodies from h) (full_spends given.budget s.env.macros from)) (λ r d.
-        then_at P (λ _. Unit {0}) (NumberAt s.units) (given.evaluate given.font at r.list.rest) _ (only_at (given.evaluate given.font at r.list.rest) (evaluates at r.list.rest p d.0)) (λ found _.
+        then_at P (λ _. Unit {0}) (NumberAt s.units) (given.evaluate given.font at r.list.rest) _ (only_fault P (given.evaluate given.font at r.list.rest) (evaluates at r.list.rest p d.0)) (λ found _.
         record { spent = d.1 }))
 
     set_number_at : (written : ℤ → List ℕ) (at : ℕ) (s : Situation) (list : Unread) → P at → EnvAt P s.env → StandAt P list.rest → Stands P (SetAt s list) (set_number given written at s list)
     set_number_at written at s list p env h =
         then_at P (λ (r : Read ℕ). Behind list r.list) (SetAt s list) (word_argument at list) _ (word_stands at list p h) (λ word k.
         then_at P (ArgumentAt word.list) (SetAt s list) (argument at word.list) _ (argument_stands at word.list p k.rest) (λ text m.
-        then_at P (NumberAt s.units) (SetAt s list) (number given at text.value s) _ (number_at at text.value s p env m.value) (λ found d.
-        let now = with_units s found.units in
+        then_at P (NumberAt s.units) (SetAt s list) (expression_value given at text.value s) _ (expression_value_at at text.value s p env m.value) (λ found d.
+        let now = with_paid s found.units in
         record { now = later_then P s now (with_text now word.value (tokens_of at (written found.value))) (paid_later P s found.units d.spent env) (text_set_at P now word.value (tokens_of at (written found.value)) env (text_stands P at (written found.value) p)); list = behind_then list word.list text.list k m.list })))
 
     dir_at : (dir : List ℕ) (st : Standing) (m : Answer Set) → Stands P (SetAt st.now st.list) m → Stands P (StandingAt st) (with_dir dir m)
@@ -218,8 +209,8 @@ module _ (P : ℕ → Type 0) where
 
       all_settings_at : (st : Standing) → EnvAt P st.now.env → ListAt st.list → Stands P (λ (e : Ending). Later P st.now e.now) (all_settings given runs st)
       all_settings_at st env h =
-          then_at P (λ (n : Next). NextAt P n × Takes given.budget (stream_at st) n) (λ (e : Ending). Later P st.now e.now) (next given.budget st.now.env.macros (stream_at st)) _ (both_at P (NextAt P) (Takes given.budget (stream_at st)) (next given.budget st.now.env.macros (stream_at st)) (next_at P given.budget st.now.env.macros env.bodies (stream_at st) h.rest) (next_takes given.budget st.now.env.macros (stream_at st))) (λ n k.
-          let now = with_stream st n.stream in
+          then_at P (λ (n : Next). NextAt P n × Takes given.budget (stream_here st) n) (λ (e : Ending). Later P st.now e.now) (next given.budget st.now.env.macros (stream_here st)) _ (both_at P (NextAt P) (Takes given.budget (stream_here st)) (next given.budget st.now.env.macros (stream_here st)) (next_at P given.budget st.now.env.macros env.bodies (stream_here st) h.rest) (next_takes given.budget st.now.env.macros (stream_here st))) (λ n k.
+          let now = standing_behind st n.stream in
           let paid = paid_later P st.now n.stream.units k.1.units env in
           weaker_at P (λ (e : Ending). Later P now.now e.now) (λ (e : Ending). Later P st.now e.now) (settings_from given runs n.token now) (λ e m. later_then P st.now now.now e.now paid m) (settings_from_at n.token now k.0.0 env (record { rest = k.0.1; end = subst P (sym k.1.end) h.end })))
 
@@ -231,7 +222,7 @@ module _ (P : ℕ → Type 0) where
 
       pub part_run_at : (p : KeyPart) (dir : List ℕ) (s : Situation) → PartAt P p → EnvAt P s.env → Stands P (λ (e : Ending). Later P s e.now) (part_run given runs p dir s)
       part_run_at p dir s h env =
-          then_at P (EffectAt P given s) (λ (e : Ending). Later P s e.now) (part given p dir s) _ (part_at P given p dir s h env) (λ effect k.
+          then_at P (EffectAt P given s) (λ (e : Ending). Later P s e.now) (part given p dir s) _ (part_at P given evaluates p dir s h env) (λ effect k.
           weaker_at P (λ (e : Ending). Later P effect.deed.now e.now) (λ (e : Ending). Later P s e.now) (text_run given runs p.at effect.deed.text effect.dir effect.deed.now) (λ e m. later_then P s effect.deed.now e.now k.now m) (text_run_at p.at effect.deed.text effect.dir effect.deed.now s.units h.at k.now.env k.text))
 
       pub parts_stand : (ps : List KeyPart) (dir : List ℕ) (s : Situation) → AllParts P ps → EnvAt P s.env → Stands P (λ (e : Ending). Later P s e.now) (parts given runs ps dir s)

@@ -1,10 +1,9 @@
 -- What a part of a key list does (the PGF manual, section "Key Management").
-use Rattle.std.specs.Prelude.{ℕ, ◌==◌, nat_eq, if◌then◌else◌, List, [], ◌∷◌, ◌++◌, unwrap_or, Option, Some, None, Ok, codes, option_map, option_and_then}
+use Rattle.std.specs.Prelude.{ℕ, ◌==◌, if◌then◌else◌, List, [], ◌∷◌, ◌++◌, unwrap_or, Option, Some, None, Ok, codes, option_map, option_and_then}
 use Rattle.std.specs.FinMap as map
-use Rattle.std.specs.List.{starts_with}
 use Rattle.tk_characters.specs.Characters.{slash}
 use Rattle.tk_token.specs.declared.Code.{Code}
-use Rattle.tk_token.specs.declared.Code.TheVariants.{MacroArg, UnknownKey, UnknownChoice, ValueRequired, ValueForbidden, Unbuilt}
+use Rattle.tk_token.specs.declared.Code.TheVariants.{MacroArg, UnknownKey, UnknownChoice, ValueRequired, ValueForbidden}
 use Rattle.tk_token.specs.declared.Tok.{Tok}
 use Rattle.tk_token.specs.Answers.{Answer, ◌>>=◌, fault, or_fault}
 use Rattle.tk_token.specs.Spaces.{after_spaces}
@@ -17,13 +16,15 @@ use Rattle.tk_store.specs.declared.Run.TheVariants as runs
 use Rattle.tk_expand.specs.Arguments.{arguments_of, with_arguments}
 use Rattle.tk_expand.specs.Expand.{stream, full, cost_of, pay}
 use Rattle.tk_expand.specs.Unread.{unread}
+use Rattle.tk_native.specs.declared.Native.{Native}
+use Rattle.tk_look.specs.Graphics.{graphics_by}
 use Rattle.tk_keytext.specs.declared.Handler.{Handler}
 use Rattle.tk_keytext.specs.declared.Handler.TheVariants.{Cd, AppendStyle, PrefixStyle, Try}
 use Rattle.tk_keytext.specs.Entries.{edited}
 use Rattle.tk_keytext.specs.Handlers.{handler_of}
 use Rattle.tk_keytext.specs.Parts.{KeyPart}
 use Rattle.tk_keytext.specs.Paths.{full_path, name_in, parent_of}
-use Rattle.tk_keys.specs.Environment.{Env, Situation, with_units, with_text, with_key}
+use Rattle.tk_keys.specs.Environment.{Env, Situation, with_paid, with_text, with_graphics, with_key}
 use Rattle.tk_keys.specs.Given.{Given, also_word, current_key, current_name}
 
 -- what a key leaves: the situation, and the text that is then to be run, if the key has code
@@ -40,6 +41,11 @@ pub record Effect : Type 0 where
 pub record Named : Type 0 where
   pub name : List ℕ
   pub now : Situation
+
+-- a value in which nothing is left to expand, if there is one, and the units behind it
+pub record ExpandedValue : Type 0 where
+  pub value : Option (List Tok)
+  pub units : ℕ
 
 -- nothing is to be run
 abbrev pub done : Situation → Deed
@@ -102,10 +108,6 @@ first_of None other = other
 abbrev pub stand_in : Env → List ℕ → Option (List ℕ × Run)
 stand_in env path = first_of (runner env (unknown_below (parent_of path))) (runner env (unknown_below (codes "/handlers")))
 
--- the fault of a key that nothing is known of: those below /tikz, which TikZ has by itself, aren't built yet
-abbrev pub unknown_code : List ℕ → Code
-unknown_code path = if starts_with nat_eq path (codes "/tikz/") then Unbuilt else UnknownKey
-
 -- what a key leaves with which the default path stays
 abbrev pub staying : List ℕ → Answer Deed → Answer Effect
 staying dir answer = do
@@ -118,34 +120,49 @@ done_or_not s used = unwrap_or used (done s)
 
 module _ (given : Given) where
   -- a name: it is expanded, and then of characters and Spaces alone
-  abbrev pub named : Code → ℕ → List Tok → Situation → Answer Named
-  named code at list s = do
+  abbrev pub expanded_name : Code → ℕ → List Tok → Situation → Answer Named
+  expanded_name code at list s = do
     text ← full given.budget s.env.macros (stream s.units (unread list at))
     name ← or_fault (text_in text.list.rest) code at
-    Ok (record { name = name; now = with_units s text.units })
+    Ok (record { name = name; now = with_paid s text.units })
 
   -- ---- runs
 
-  -- what a run makes of a value, if it isn't a choice
-  abbrev pub run : ℕ → Run → Option (List Tok) → Situation → Answer Deed
-  run at (runs.Native n) value s = fault Unbuilt at
-  run at runs.Choice value s = fault ValueRequired at
-  run at (runs.StoreIn word) value s = Ok (done (with_text s word (unwrap_or value [])))
-  run at (runs.Code args body) value s = do
+  -- a value with no macro call left
+  abbrev pub expanded_value : ℕ → Option (List Tok) → Situation → Answer ExpandedValue
+  expanded_value at None s = Ok (record { value = None; units = s.units })
+  expanded_value at (Some list) s = do
+    text ← full given.budget s.env.macros (stream s.units (unread list at))
+    Ok (record { value = Some text.list.rest; units = text.units })
+
+  -- a native key, with the name by which it was asked: its value is expanded, and then it sets where and how is drawn
+  abbrev pub set_native : ℕ → List ℕ → Native → Option (List Tok) → Situation → Answer Deed
+  set_native at name key value s = do
+    expanded ← expanded_value at value s
+    graphics ← graphics_by at given.evaluate given.font key name expanded.value s.env.graphics
+    Ok (done (with_graphics (with_paid s expanded.units) graphics))
+
+  -- what a run makes of a value, if it isn't a choice; the name is the one by which the key was asked
+  abbrev pub plain_run : ℕ → List ℕ → Run → Option (List Tok) → Situation → Answer Deed
+  plain_run at name (runs.Native key) value s = set_native at name key value s
+  plain_run at name runs.Choice value s = fault ValueRequired at
+  plain_run at name (runs.StoreIn word) value s = Ok (done (with_text s word (unwrap_or value [])))
+  plain_run at name (runs.Code args body) value s = do
     paid ← code_text given.budget at args body value s.units
-    Ok (record { now = with_units s paid.units; text = Some paid.text })
+    Ok (record { now = with_paid s paid.units; text = Some paid.text })
 
   -- a choice at a path: the value names a key below it, which runs without a value, as `/c=x` runs `/c/x`
   abbrev pub choose : ℕ → List ℕ → List Tok → Situation → Answer Deed
   choose at path value s = do
-    chosen ← named UnknownChoice at value s
-    key ← or_fault (run_at chosen.now.env (path ++ slash ∷ chosen.name)) UnknownChoice at
-    run at key None chosen.now
+    chosen ← expanded_name UnknownChoice at value s
+    let below = path ++ slash ∷ chosen.name
+    key ← or_fault (run_at chosen.now.env below) UnknownChoice at
+    plain_run at (name_in below) key None chosen.now
 
   -- what the run at a path makes of a value
-  abbrev pub run_key : ℕ → List ℕ → Run → Option (List Tok) → Situation → Answer Deed
-  run_key at path runs.Choice (Some value) s = choose at path value s
-  run_key at path key value s = run at key value s
+  abbrev pub run_key : ℕ → List ℕ → List ℕ → Run → Option (List Tok) → Situation → Answer Deed
+  run_key at path name runs.Choice (Some value) s = choose at path value s
+  run_key at path name key value s = plain_run at name key value s
 
   -- ---- entries
 
@@ -153,7 +170,7 @@ module _ (given : Given) where
   abbrev pub use_by : ℕ → List ℕ → Entry → Option Run → Option (List Tok) → Option (List Tok) → Situation → Answer (Option Deed)
   use_by at path entry (Some key) stored value s = do
     taken ← value_by at entry.need value
-    deed ← run_key at path key taken s
+    deed ← run_key at path (name_in path) key taken s
     Ok (Some deed)
   use_by at path entry None (Some old) value s = do
     taken ← value_by at entry.need value
@@ -188,7 +205,7 @@ module _ (given : Given) where
   edit at handler path value s = do
     entry ← edited (also_word given) at handler (map.get s.env.keys path) value
     paid ← edit_paid at handler entry.run s.units
-    Ok (done (with_key (with_units s paid) path entry))
+    Ok (done (with_key (with_paid s paid) path entry))
 
   -- what a handler does with the key at a path
   abbrev pub handle : ℕ → Handler → List ℕ → Option (List Tok) → List ℕ → Situation → Answer Effect
@@ -206,8 +223,8 @@ module _ (given : Given) where
   -- a key that nothing is known of: another runs for it, which can ask for its name
   abbrev pub unknown : ℕ → List ℕ → Option (List Tok) → Situation → Answer Deed
   unknown at path value s = do
-    other ← or_fault (stand_in s.env path) (unknown_code path) at
-    run_key at other.0 other.1 value (announced at path s)
+    other ← or_fault (stand_in s.env path) UnknownKey at
+    run_key at other.0 (name_in path) other.1 value (announced at path s)
 
   -- a key without a run and a stored value: its last part may be a handler of the key before it
   abbrev pub handle_or_unknown : ℕ → Option Handler → List ℕ → Option (List Tok) → List ℕ → Situation → Answer Effect
@@ -229,5 +246,5 @@ module _ (given : Given) where
   -- a part of a key list, with the default path before it: `b=1` where that is `/a` is the key `/a/b` with the value `1`
   unfoldable pub part : KeyPart → List ℕ → Situation → Answer Effect
   part p dir s = do
-    name ← named UnknownKey p.at p.name s
+    name ← expanded_name UnknownKey p.at p.name s
     key p.at (full_path dir name.name) p.value dir name.now

@@ -30,9 +30,9 @@ use Rattle.tk_keys.specs.declared.setting.Origin.{Origin}
 use Rattle.tk_keys.specs.declared.setting.Origin.TheVariants.{Root, Here, Tikz}
 use Rattle.tk_keys.specs.declared.setting.Setting.{Setting}
 use Rattle.tk_keys.specs.declared.setting.Setting.TheVariants.{Nothing, Define, Keys, SetValue, GetValue, SetNumber, SetWhole}
-use Rattle.tk_keys.specs.Environment.{Env, level, inner_list, with_macro, Situation, with_units, with_text, with_key}
+use Rattle.tk_keys.specs.Environment.{Env, level, inner_list, with_macro, Situation, with_paid, with_text, with_key}
 use Rattle.tk_keys.specs.Given.{Given}
-use Rattle.tk_keys.specs.Keys.{part, named}
+use Rattle.tk_keys.specs.Keys.{part, expanded_name}
 
 -- ---- what begins a setting
 
@@ -86,12 +86,12 @@ abbrev pub standing : Situation → List ℕ → Unread → Standing
 standing s dir list = record { now = s; dir = dir; list = list }
 
 -- the list as a stream
-abbrev pub stream_at : Standing → Stream
-stream_at st = stream st.now.units st.list
+abbrev pub stream_here : Standing → Stream
+stream_here st = stream st.now.units st.list
 
 -- the run stands behind that stream
-abbrev pub with_stream : Standing → Stream → Standing
-with_stream st s = standing (with_units st.now s.units) st.dir s.list
+abbrev pub standing_behind : Standing → Stream → Standing
+standing_behind st s = standing (with_paid st.now s.units) st.dir s.list
 
 -- what a setting leaves with which the default path stays: the situation, and the tokens behind it
 pub record Set : Type 0 where
@@ -155,7 +155,7 @@ pub record KeyRead : Type 0 where
   pub list : Unread
 
 -- the value of an expression, and the units behind it
-pub record Number : Type 0 where
+pub record ExpressionValue : Type 0 where
   pub value : ℤ
   pub units : ℕ
 
@@ -176,7 +176,7 @@ module _ (given : Given) where
   abbrev pub key_argument : ℕ → List ℕ → Situation → Unread → Answer KeyRead
   key_argument at dir s list = do
     text ← argument at list
-    name ← named given UnknownKey at text.value s
+    name ← expanded_name given UnknownKey at text.value s
     Ok (record { path = full_path dir name.name; now = name.now; list = text.list })
 
   -- `\pgfkeyssetvalue{k}{v}`: a value is stored
@@ -195,8 +195,8 @@ module _ (given : Given) where
     Ok (set_behind (with_text key.now word.value value) word.list)
 
   -- the value of an expression, once it is expanded
-  abbrev pub number : ℕ → List Tok → Situation → Answer Number
-  number at list s = do
+  abbrev pub expression_value : ℕ → List Tok → Situation → Answer ExpressionValue
+  expression_value at list s = do
     expanded ← full given.budget s.env.macros (stream s.units (unread list at))
     found ← given.evaluate given.font at expanded.list.rest
     Ok (record { value = found.number; units = expanded.units })
@@ -206,8 +206,8 @@ module _ (given : Given) where
   set_number written at s list = do
     word ← word_argument at list
     text ← argument at word.list
-    found ← number at text.value s
-    Ok (set_behind (with_text (with_units s found.units) word.value (tokens_of at (written found.value))) text.list)
+    found ← expression_value at text.value s
+    Ok (set_behind (with_text (with_paid s found.units) word.value (tokens_of at (written found.value))) text.list)
 
   module _ (runs : Runnable → Answer Ending) where
     -- ---- settings
@@ -236,7 +236,7 @@ module _ (given : Given) where
       contents ← or_fault (group_of st.list.rest) NotASetting at
       inside ← level at st.now.env
       after ← runs (Some_settings (standing (record st.now { env = inside }) st.dir (unread contents.front (end_of at contents.front))))
-      Ok (standing (with_units st.now after.now.units) st.dir (unread contents.rest st.list.end))
+      Ok (standing (with_paid st.now after.now.units) st.dir (unread contents.rest st.list.end))
 
     -- what begins with a token, which was taken: a setting or a group
     abbrev pub set_or_group : Option Setting → Tok → Standing → Answer Standing
@@ -253,8 +253,8 @@ module _ (given : Given) where
     -- settings up to the end of their list
     abbrev pub all_settings : Standing → Answer Ending
     all_settings st = do
-      ahead ← next given.budget st.now.env.macros (stream_at st)
-      settings_from ahead.token (with_stream st ahead.stream)
+      ahead ← next given.budget st.now.env.macros (stream_here st)
+      settings_from ahead.token (standing_behind st ahead.stream)
 
     -- ---- key lists
 

@@ -1,36 +1,45 @@
 -- The state of a run, as the contracts see it.
-use Rattle.std.specs.Prelude.{◌≡◌, ℕ, Bool, true, false, List, length, Option, Some, None}
-use Rattle.tk_store.specs.Levels.{Levels, new_levels}
+use Rattle.std.specs.Prelude.{◌≡◌, ℕ, Bool, true, false, List, [], length, Option, Some, None}
+use Rattle.tk_look.specs.declared.GraphicsState.{GraphicsState}
+use Rattle.tk_store.specs.Levels.{Levels}
 use Rattle.tk_expand.specs.Unread.{Unread}
 use Rattle.tk_expand.specs.Expand.{Stream, stream}
 use Rattle.tk_expr.specs.declared.FontUnits.{FontUnits}
 use Rattle.tk_expr.specs.Evaluates.{Evaluation}
-use Rattle.tk_keys.specs.Environment.{Env, Situation}
+use Rattle.tk_keys.specs.Environment.{Env, Situation, first_env}
 use Rattle.tk_keys.specs.Given.{Given, known_words}
 use Rattle.tk_keys.specs.Settings.{Standing, Ending, Set, standing, set_behind}
 
--- what was given for a run, what words and keys mean at each open level, how many key lists run, and the units paid so far
+-- what was given for a run, what words and keys mean at each open level, where and how is drawn at the last level and at
+-- those further out, the nearest first, how many key lists run, and the units paid so far
 pub record State : Type 0 where
   pub names : List (List ℕ)
   pub font : FontUnits
   pub budget : ℕ
   pub levels : Levels
+  pub graphics : GraphicsState
+  pub saved : List GraphicsState
   pub lists : ℕ
   pub units : ℕ
-
--- before a run over a source with those words
-abbrev pub first_state : List (List ℕ) → FontUnits → ℕ → State
-first_state words font budget =
-    record { names = known_words words; font = font; budget = budget; levels = new_levels; lists = 0; units = 0 }
 
 -- what words and keys mean at the last level, and how many levels and key lists there are
 abbrev pub env_of : State → Env
 env_of s =
-    record { macros = s.levels.top.macros; keys = s.levels.top.keys; levels = length s.levels.outer; lists = s.lists }
+    record { macros = s.levels.top.macros; keys = s.levels.top.keys; graphics = s.graphics; levels = length s.levels.outer; lists = s.lists }
 
 -- what is given, with a way to evaluate
 abbrev pub given_of : Evaluation → State → Given
 given_of ev s = record { names = s.names; evaluate = ev; font = s.font; budget = s.budget }
+
+-- before a run over a source with those words
+pub record IsFirst (words : List (List ℕ)) (size : FontUnits) (most : ℕ) (s : State) : Type 0 where
+  pub names : s.names ≡ known_words words
+  pub font : s.font ≡ size
+  pub budget : s.budget ≡ most
+  pub env : (ev : Evaluation) → env_of s ≡ first_env (given_of ev s)
+  pub outer : s.levels.outer ≡ []
+  pub saved : s.saved ≡ []
+  pub units : s.units ≡ 0
 
 -- the units paid so far, and a list that is read
 abbrev pub stream_of : State → Unread → Stream
@@ -60,6 +69,7 @@ pub record Keeps (old new : State) : Type 0 where
   pub font : new.font ≡ old.font
   pub budget : new.budget ≡ old.budget
   pub outer : new.levels.outer ≡ old.levels.outer
+  pub saved : new.saved ≡ old.saved
   pub lists : new.lists ≡ old.lists
 
 -- what is behind a setting

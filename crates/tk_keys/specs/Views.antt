@@ -12,10 +12,11 @@ use Rattle.tk_expand.specs.Unread.{Unread, unread}
 use Rattle.tk_keys.specs.declared.deeds.Deed as code
 use Rattle.tk_keys.specs.declared.keys.Runner.{Runner}
 use Rattle.std.specs.FinMap as map
+use Rattle.tk_look.specs.Graphics.{initial_graphics}
 use Rattle.tk_keys.specs.Environment.{Situation}
 use Rattle.tk_keys.specs.Given.{Given}
 use Rattle.tk_keys.specs.Keys.{Deed, Effect, Named, PaidText}
-use Rattle.tk_keys.specs.Settings.{KeyRead, Number}
+use Rattle.tk_keys.specs.Settings.{KeyRead, ExpressionValue}
 use Rattle.tk_keys.specs.State.{State, situation_of}
 
 -- what a key leaves
@@ -31,8 +32,8 @@ abbrev pub effect_of : code.Deed → State → List ℕ → Effect
 effect_of deed s dir = record { deed = deed_of deed s; dir = dir }
 
 -- a name that was read
-abbrev pub name_of : List ℕ → State → Named
-name_of name s = record { name = name; now = situation_of s }
+abbrev pub name_read : List ℕ → State → Named
+name_read name s = record { name = name; now = situation_of s }
 
 -- the name of a key that was read
 abbrev pub key_of : List ℕ → State → Unread → KeyRead
@@ -47,13 +48,13 @@ expanded_text budget macros units at list =
 abbrev pub given_by : FontUnits → ℕ → Given
 given_by font budget = record { names = []; evaluate = evaluated; font = font; budget = budget }
 
-abbrev pub situation_by : Macros → ℕ → Situation
-situation_by macros units =
-    record { env = record { macros = macros; keys = map.empty; levels = 0; lists = 0 }; units = units }
+abbrev pub situation_by : FontUnits → Macros → ℕ → Situation
+situation_by font macros units =
+    record { env = record { macros = macros; keys = map.empty; graphics = initial_graphics font; levels = 0; lists = 0 }; units = units }
 
 -- a value, and the units behind it
-abbrev pub number_by : ℤ → ℕ → Number
-number_by value units = record { value = value; units = units }
+abbrev pub value_behind : ℤ → ℕ → ExpressionValue
+value_behind value units = record { value = value; units = units }
 
 -- a text that was paid for
 abbrev pub paid_by : List Tok → ℕ → PaidText

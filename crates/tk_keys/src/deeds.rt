@@ -7,30 +7,27 @@ ghost use Rattle.tk_expand.specs.Expand.{Stream, full, stream};
 ghost use Rattle.tk_expand.specs.Texts.{texts_of};
 ghost use Rattle.tk_expand.specs.Unread.{unread};
 ghost use Rattle.tk_expr.specs.Evaluated.{evaluated};
+ghost use Rattle.tk_look.specs.Graphics.{graphics_by};
 ghost use Rattle.tk_keys.specs.Environment as environment;
 ghost use Rattle.tk_keys.specs.Keys as keys;
 ghost use Rattle.tk_keys.specs.State.{given_of, env_of, situation_of, Keeps, Pays};
-ghost use Rattle.tk_keys.specs.Views.{deed_of, used_of, name_of, expanded_text, paid_by};
+ghost use Rattle.tk_keys.specs.Views.{deed_of, used_of, name_read, expanded_text, paid_by};
 
 use crate::State;
 use std::alloc::{AllocError, Global};
 use std::mem;
 use tk_expand::{Input, Units, expand_all, is_expanded, paid_text};
-use tk_keytext::path_below;
+use tk_expr::FontUnits;
+use tk_keytext::{name_in, path_below};
+use tk_look::GraphicsState;
+use tk_native::Native;
 use tk_store::{Body, Entry, Macro, Need, Run, Store};
-use tk_token::{Code, Fault, Refusal, Tok, text_into, tokens_of};
+use tk_token::{Code, Refusal, Tok, text_into, tokens_of};
 
 /// What a key leaves to be run: the text of its code, if it has code.
 #[derive(Drop)]
 pub(crate) struct Deed {
     pub(crate) text: Option<Body>,
-}
-
-/// The fault of a key, at the place of its part or command.
-pub(crate) fn refused(code: Code, at: u32) -> Refusal
-    ensures { result ≡ Refusal.Fault (record { code = code; at = at }) }
-{
-    Refusal::Fault(Fault { code, at })
 }
 
 /// Nothing is to be run.
@@ -43,16 +40,21 @@ pub(crate) fn done() -> Deed
 impl State {
     /// A name: it is expanded, and then of characters and Spaces alone. It takes the memory of an earlier one where there
     /// is some, which `keep` gives back.
-    pub(crate) fn named(&mut self, code: Code, at: u32, list: &[Tok]) -> Result<String, Refusal>
-        ensures gives { Gives (λ name. name_of (string_bytes name) self.new) result
-            (keys.named (given_of evaluated self.old) code at list.now (situation_of self.old)) }
+    pub(crate) fn expanded_name(
+        &mut self,
+        code: Code,
+        at: u32,
+        list: &[Tok],
+    ) -> Result<String, Refusal>
+        ensures gives { Gives (λ name. name_read (string_bytes name) self.new) result
+            (keys.expanded_name (given_of evaluated self.old) code at list.now (situation_of self.old)) }
         ensures pays { Pays self.old self.new }
         ensures used { OnOk result (self.old.units ≤ self.new.units) }
     {
         let memory = mem::replace(&mut self.spare, String::new(self.alloc));
         match expanded_text(memory, at, list, &self.store, &mut self.units)? {
             Some(name) => Ok(name),
-            None => Err(refused(code, at)),
+            None => Err(Refusal::new(code, at)),
         }
     }
 
@@ -111,16 +113,78 @@ impl State {
         }
     }
 
-    /// What a run makes of a value, if it isn't a choice.
-    fn run(&mut self, at: u32, run: &Run, value: Option<&[Tok]>) -> Result<Deed, Refusal>
+    /// A list with no macro call left.
+    fn expanded_list(&mut self, at: u32, list: &[Tok]) -> Result<Vec<Tok>, Refusal>
+        ensures gives { Gives (λ text. stream self.new.units (unread text.items at)) result
+            (full self.old.budget (env_of self.old).macros (stream self.old.units (unread list.now at))) }
+        ensures pays { Pays self.old self.new }
+        ensures used { OnOk result (self.old.units ≤ self.new.units) }
+    {
+        let list = Vec::from_slice(self.alloc, list)?;
+        expand_all(self.alloc, list, &self.store, &mut self.units)
+    }
+
+    /// A native key sets where and how is drawn.
+    fn set_graphics(
+        &mut self,
+        at: u32,
+        name: &str,
+        key: Native,
+        value: Option<&[Tok]>,
+    ) -> Result<(), Refusal>
+        ensures gives { Gives (λ _. self.new.graphics) result
+            (graphics_by at evaluated self.old.font key name.now (option_copied value.entry) self.old.graphics) }
+        ensures kept { self.new ≡ record self.old { graphics = self.new.graphics } }
+    {
+        graphics_set(
+            &mut self.graphics,
+            self.alloc,
+            at,
+            name,
+            key,
+            value,
+            self.font,
+        )
+    }
+
+    /// A native key, with the name by which it was asked: its value is expanded, and then it sets where and how is drawn.
+    fn set_native(
+        &mut self,
+        at: u32,
+        name: &str,
+        key: Native,
+        value: Option<&[Tok]>,
+    ) -> Result<Deed, Refusal>
         ensures gives { Gives (λ deed. deed_of deed self.new) result
-            (keys.run (given_of evaluated self.old) at run.now (option_copied value.entry) (situation_of self.old)) }
+            (keys.set_native (given_of evaluated self.old) at name.now key (option_copied value.entry) (situation_of self.old)) }
+        ensures kept { OnOk result (Keeps self.old self.new) }
+        ensures used { OnOk result (self.old.units ≤ self.new.units) }
+    {
+        let Some(list) = value else {
+            self.set_graphics(at, name, key, None)?;
+            return Ok(done());
+        };
+        let list = self.expanded_list(at, list)?;
+        self.set_graphics(at, name, key, Some(&list))?;
+        Ok(done())
+    }
+
+    /// What a run makes of a value, if it isn't a choice; the name is the one by which the key was asked.
+    fn run(
+        &mut self,
+        at: u32,
+        name: &str,
+        run: &Run,
+        value: Option<&[Tok]>,
+    ) -> Result<Deed, Refusal>
+        ensures gives { Gives (λ deed. deed_of deed self.new) result
+            (keys.plain_run (given_of evaluated self.old) at name.now run.now (option_copied value.entry) (situation_of self.old)) }
         ensures kept { OnOk result (Keeps self.old self.new) }
         ensures used { OnOk result (self.old.units ≤ self.new.units) }
     {
         match run {
-            Run::Native(_) => Err(refused(Code::Unbuilt, at)),
-            Run::Choice => Err(refused(Code::ValueRequired, at)),
+            Run::Native(key) => self.set_native(at, name, *key, value),
+            Run::Choice => Err(Refusal::new(Code::ValueRequired, at)),
             Run::StoreIn(word) => {
                 let text = Body::new(self.alloc, value.unwrap_or(&[]))?;
                 self.set_text(*word, text)?;
@@ -140,11 +204,11 @@ impl State {
         ensures kept { OnOk result (Keeps self.old self.new) }
         ensures used { OnOk result (self.old.units ≤ self.new.units) }
     {
-        let name = self.named(Code::UnknownChoice, at, value)?;
+        let name = self.expanded_name(Code::UnknownChoice, at, value)?;
         let chosen = path_below(self.alloc, path, &name)?;
         match self.run_at(&chosen)? {
-            Some(run) => self.run(at, &run, None),
-            None => Err(refused(Code::UnknownChoice, at)),
+            Some(run) => self.run(at, name_in(&chosen), &run, None),
+            None => Err(Refusal::new(Code::UnknownChoice, at)),
         }
     }
 
@@ -153,20 +217,21 @@ impl State {
         &mut self,
         at: u32,
         path: &str,
+        name: &str,
         run: &Run,
         value: Option<&[Tok]>,
     ) -> Result<Deed, Refusal>
         ensures gives { Gives (λ deed. deed_of deed self.new) result
-            (keys.run_key (given_of evaluated self.old) at path.now run.now (option_copied value.entry) (situation_of self.old)) }
+            (keys.run_key (given_of evaluated self.old) at path.now name.now run.now (option_copied value.entry) (situation_of self.old)) }
         ensures kept { OnOk result (Keeps self.old self.new) }
         ensures used { OnOk result (self.old.units ≤ self.new.units) }
     {
         match run {
             Run::Choice => match value {
                 Some(value) => self.choose(at, path, value),
-                None => self.run(at, run, None),
+                None => self.run(at, name, run, None),
             },
-            _ => self.run(at, run, value),
+            _ => self.run(at, name, run, value),
         }
     }
 
@@ -188,7 +253,7 @@ impl State {
             return Ok(None);
         }
         let Some(taken) = value_by(at, &entry.need, value)? else {
-            return Err(refused(Code::ValueRequired, at));
+            return Err(Refusal::new(Code::ValueRequired, at));
         };
         let value = Some(Body::new(self.alloc, taken)?);
         self.set_entry(path, Entry { value, ..entry })?;
@@ -219,8 +284,24 @@ impl State {
         let run = run.copy()?;
         let need = entry.need.copy()?;
         let taken = value_by(at, &need, value)?;
-        Ok(Some(self.run_key(at, path, &run, taken)?))
+        Ok(Some(self.run_key(at, path, name_in(path), &run, taken)?))
     }
+}
+
+/// A native key sets where and how is drawn, where expressions have the values of the machine.
+fn graphics_set(
+    graphics: &mut GraphicsState,
+    alloc: Global,
+    at: u32,
+    name: &str,
+    key: Native,
+    value: Option<&[Tok]>,
+    font: FontUnits,
+) -> Result<(), Refusal>
+    ensures { Gives (λ _. graphics.new) result
+        (graphics_by at evaluated font key name.now (option_copied value.entry) graphics.old) }
+{
+    graphics.set(alloc, key, name, value, font, at)
 }
 
 /// The text of a list, once it is expanded, in the memory of a string; other tokens than characters and Spaces have none.
@@ -256,8 +337,8 @@ fn value_by<'a>(
 {
     match (need, value) {
         (Need::Default(body), None) => Ok(Some(body.as_slice())),
-        (Need::Required, None) => Err(refused(Code::ValueRequired, at)),
-        (Need::Forbidden, Some(_)) => Err(refused(Code::ValueForbidden, at)),
+        (Need::Required, None) => Err(Refusal::new(Code::ValueRequired, at)),
+        (Need::Forbidden, Some(_)) => Err(Refusal::new(Code::ValueForbidden, at)),
         _ => Ok(value),
     }
 }
@@ -293,7 +374,7 @@ fn code_arguments(
     if args == 2 {
         return match value {
             Some(value) => two_arguments(alloc, at, value),
-            None => Err(refused(Code::ValueRequired, at)),
+            None => Err(Refusal::new(Code::ValueRequired, at)),
         };
     }
     let argument = Vec::from_slice(alloc, value.unwrap_or(&[]))?;
@@ -308,7 +389,7 @@ fn two_arguments(alloc: Global, at: u32, value: &[Tok]) -> Result<Vec<Vec<Tok>>,
     let arguments = input.arguments(2, at)?;
     input.skip_spaces();
     if input.raw().is_some() {
-        return Err(refused(Code::MacroArg, at));
+        return Err(Refusal::new(Code::MacroArg, at));
     }
     Ok(arguments)
 }

@@ -10,7 +10,7 @@ ghost use Rattle.tk_keys.specs.Keys as keys;
 ghost use Rattle.tk_keys.specs.State.{given_of, env_of, situation_of, Keeps};
 ghost use Rattle.tk_keys.specs.Views.{deed_of, effect_of, runner_of};
 
-use crate::deeds::{Deed, done, refused};
+use crate::deeds::{Deed, done};
 use crate::{Dir, State};
 use std::alloc::{AllocError, Global};
 use tk_keytext::{Handler, Part, edit_entry, handler_of, name_in, parent_of, path_below};
@@ -129,10 +129,10 @@ impl State {
         ensures used { OnOk result (self.old.units ≤ self.new.units) }
     {
         let Some(other) = self.stand_in(path)? else {
-            return Err(refused(unknown_code(path), at));
+            return Err(Refusal::new(Code::UnknownKey, at));
         };
         self.announce(at, path)?;
-        self.run_key(at, &other.path, &other.run, value)
+        self.run_key(at, &other.path, name_in(path), &other.run, value)
     }
 
     /// A key without a run and a stored value: its last part may be a handler of the key before it.
@@ -181,22 +181,11 @@ impl State {
         ensures kept { OnOk result (Keeps self.old self.new) }
         ensures used { OnOk result (self.old.units ≤ self.new.units) }
     {
-        let name = self.named(Code::UnknownKey, part.at, part.name)?;
+        let name = self.expanded_name(Code::UnknownKey, part.at, part.name)?;
         let path = path_from(self.alloc, dir, name)?;
         let deed = self.key(part.at, &path, part.value, dir)?;
         self.keep(path);
         Ok(deed)
-    }
-}
-
-/// The fault of a key that nothing is known of: those below /tikz, which TikZ has by itself, aren't built yet.
-fn unknown_code(path: &str) -> Code
-    ensures { result ≡ keys.unknown_code path.now }
-{
-    if path.starts_with("/tikz/") {
-        Code::Unbuilt
-    } else {
-        Code::UnknownKey
     }
 }
 

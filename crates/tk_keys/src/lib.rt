@@ -3,6 +3,7 @@
 
 mod deeds;
 mod dir;
+mod initial;
 mod keys;
 mod laws;
 mod runs;

@@ -12,7 +12,6 @@ ghost use Rattle.tk_keys.specs.Settings as settings;
 ghost use Rattle.tk_keys.specs.Settings.{A_key_list, Some_settings, one_setting, runs, begins_at, with_dir, setting_of};
 ghost use Rattle.tk_keys.specs.State.{given_of, situation_of, standing_of, ending_of, set_of, Keeps};
 
-use crate::deeds::refused;
 use crate::setting::{Origin, Setting};
 use crate::{Dir, State};
 use std::alloc::AllocError;
@@ -82,7 +81,7 @@ impl State {
         ensures used { OnOk result (self.old.units ≤ self.new.units) }
     {
         if self.lists >= MOST_LISTS {
-            return Err(refused(Code::KeyDepth, at));
+            return Err(Refusal::new(Code::KeyDepth, at));
         }
         self.lists += 1;
         self.run_parts(dir, list)?;
@@ -152,7 +151,7 @@ impl State {
         match self.setting_of(first.kind) {
             Some(setting) => self.set(setting, first.at, dir, input),
             None if first.kind.is_open() => self.group(first.at, dir, input),
-            None => Err(refused(Code::NotASetting, first.at)),
+            None => Err(Refusal::new(Code::NotASetting, first.at)),
         }
     }
 
@@ -221,7 +220,7 @@ impl State {
             ≤ (self.old.budget - self.old.units) + length input.old.rest) }
     {
         let Some(contents) = input.group()? else {
-            return Err(refused(Code::NotASetting, at));
+            return Err(Refusal::new(Code::NotASetting, at));
         };
         self.open(at)?;
         let end = end_of(at, &contents);

@@ -11,9 +11,8 @@ ghost use Rattle.tk_keys.specs.Keys as keys;
 ghost use Rattle.tk_keys.specs.Settings as settings;
 ghost use Rattle.tk_keys.specs.Settings.{whole_text};
 ghost use Rattle.tk_keys.specs.State.{given_of, env_of, situation_of, behind_set, Keeps, Pays};
-ghost use Rattle.tk_keys.specs.Views.{key_of, number_by, given_by, situation_by};
+ghost use Rattle.tk_keys.specs.Views.{key_of, value_behind, given_by, situation_by};
 
-use crate::deeds::refused;
 use crate::keys::path_from;
 use crate::{Dir, State};
 use std::alloc::{AllocError, Global};
@@ -35,7 +34,7 @@ fn word_argument(at: u32, input: &mut Input) -> Result<u32, Refusal>
     let text = input.argument(at)?;
     match one_word(&text) {
         Some(word) => Ok(word),
-        None => Err(refused(Code::MacroSyntax, at)),
+        None => Err(Refusal::new(Code::MacroSyntax, at)),
     }
 }
 
@@ -66,7 +65,7 @@ impl State {
             ≤ (self.old.budget - self.old.units) + length input.old.rest) }
     {
         let text = input.argument(at)?;
-        let name = self.named(Code::UnknownKey, at, &text)?;
+        let name = self.expanded_name(Code::UnknownKey, at, &text)?;
         Ok(path_from(self.alloc, dir, name)?)
     }
 
@@ -114,7 +113,7 @@ impl State {
     {
         let path = self.key_argument(at, dir, input)?;
         let Some(value) = self.stored_at(&path)? else {
-            return Err(refused(Code::UnknownKey, at));
+            return Err(Refusal::new(Code::UnknownKey, at));
         };
         let word = word_argument(at, input)?;
         self.set_text(word, value)?;
@@ -135,13 +134,13 @@ impl State {
     }
 
     /// The value of an expression, once it is expanded.
-    fn number(&mut self, at: u32, text: Vec<Tok>) -> Result<Scaled, Refusal>
-        ensures gives { Gives (λ number. number_by number self.new.units) result
-            (settings.number (given_of evaluated self.old) at text.items (situation_of self.old)) }
+    fn expression_value(&mut self, at: u32, text: Vec<Tok>) -> Result<Scaled, Refusal>
+        ensures gives { Gives (λ number. value_behind number self.new.units) result
+            (settings.expression_value (given_of evaluated self.old) at text.items (situation_of self.old)) }
         ensures pays { Pays self.old self.new }
         ensures used { OnOk result (self.old.units ≤ self.new.units) }
     {
-        number_of(
+        value_of_text(
             self.alloc,
             at,
             text,
@@ -163,7 +162,7 @@ impl State {
     {
         let word = word_argument(at, input)?;
         let text = input.argument(at)?;
-        let number = self.number(at, text)?;
+        let number = self.expression_value(at, text)?;
         self.set_written(at, word, &print_tex(number.sp()))?;
         Ok(())
     }
@@ -180,14 +179,14 @@ impl State {
     {
         let word = word_argument(at, input)?;
         let text = input.argument(at)?;
-        let number = self.number(at, text)?;
+        let number = self.expression_value(at, text)?;
         self.set_written(at, word, &print(number.sp() / 65_536 * 65_536))?;
         Ok(())
     }
 }
 
 /// The value of an expression, once it is expanded.
-fn number_of(
+fn value_of_text(
     alloc: Global,
     at: u32,
     text: Vec<Tok>,
@@ -195,8 +194,8 @@ fn number_of(
     store: &Store,
     units: &mut Units,
 ) -> Result<Scaled, Refusal>
-    ensures gives { Gives (λ number. number_by number units.new.used) result
-        (settings.number (given_by font units.old.budget) at text.items (situation_by store.now.top.macros units.old.used)) }
+    ensures gives { Gives (λ number. value_behind number units.new.used) result
+        (settings.expression_value (given_by font units.old.budget) at text.items (situation_by font store.now.top.macros units.old.used)) }
     ensures budget { units.new.budget ≡ units.old.budget }
     ensures used { OnOk result (units.old.used ≤ units.new.used) }
 {

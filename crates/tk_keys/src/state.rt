@@ -9,15 +9,19 @@ ghost use Rattle.tk_expand.specs.Reading.{taken, next, next_solid, after_next, a
 ghost use Rattle.tk_expand.specs.Unread.{unread};
 ghost use Rattle.tk_keys.specs.Environment.{level};
 ghost use Rattle.tk_keys.specs.Given.{known_words};
-ghost use Rattle.tk_keys.specs.State.{first_state, env_of, stream_of, Pays};
+ghost use Rattle.tk_look.specs.Graphics.{graphics_below};
+ghost use Rattle.tk_keys.specs.State.{IsFirst, env_of, stream_of, Pays};
 ghost use Rattle.tk_keys.specs.Made.{AreMade};
 ghost use Rattle.tk_store.specs.Levels.{SetsMacro};
 
+use crate::initial::first_store;
 use std::alloc::{AllocError, Global};
 use std::marker::Model;
+use std::mem;
 use std::sync::ledger::Ledger;
 use tk_expand::{Input, Units, expand_all};
 use tk_expr::FontUnits;
+use tk_look::GraphicsState;
 use tk_store::{Macro, Steps, Store};
 use tk_token::{Code, Fault, Names, Refusal, Tok};
 
@@ -33,6 +37,10 @@ pub struct State {
     pub(crate) made: MadeWords,
     pub(crate) font: FontUnits,
     pub(crate) store: Store,
+    /// Where and how is drawn.
+    pub(crate) graphics: GraphicsState,
+    /// The same at the levels further out, the outermost first. It has room for each level that can be open.
+    saved: Vec<GraphicsState>,
     /// How many key lists run.
     pub(crate) lists: usize,
     pub(crate) units: Units,
@@ -55,6 +63,9 @@ impl Model for State {
     ghost use Rattle.std.specs.Coded.{codes};
     ghost use Rattle.std.specs.FinMap as map;
     ghost use Rattle.tk_keys.specs.State.{State};
+    ghost use Rattle.std.specs.Prelude.{◌≡◌, ◌≤◌, length};
+    ghost use Rattle.std.specs.Prelude.{reverse};
+    ghost use Rattle.std.specs.Vec.{vec_capacity};
     ghost use Rattle.tk_keys.specs.Made.{AreMade};
 
     ghost Value = { State };
@@ -66,11 +77,13 @@ impl Model for State {
       font = s.font;
       budget = s.units.budget;
       levels = s.store;
+      graphics = s.graphics;
+      saved = reverse s.saved.items;
       lists = s.lists;
       units = s.units.used;
     } };
 
-    ghost invariant = { λ s. AreMade s.names s.made };
+    ghost invariant = { λ s. AreMade s.names s.made × (length s.saved.items ≡ length s.store.outer) × (128 ≤ vec_capacity s.saved) };
 }
 
 impl State {
@@ -82,7 +95,7 @@ impl State {
         budget: u64,
     ) -> Result<State, AllocError>
         requires { length names ≤ 17000000 }
-        ensures { IfOk result (λ state. state ≡ first_state names font budget) }
+        ensures { IfOk result (λ state. IsFirst names font budget state) }
     {
         let mut names = names;
         let made = make_words(&mut names)?;
@@ -91,7 +104,9 @@ impl State {
             names,
             made,
             font,
-            store: Store::new(alloc)?,
+            store: first_store(alloc, made.also)?,
+            graphics: GraphicsState::initial(font),
+            saved: Vec::with_capacity(alloc, MOST_LEVELS)?,
             lists: 0,
             units: Units { used: 0, budget },
             spare: String::new(alloc),
@@ -206,7 +221,11 @@ impl State {
         ensures gives { MatchResult result
             (λ _. level at (env_of self.old) ≡ Ok (env_of self.new))
             (λ fault. level at (env_of self.old) ≡ Err fault) }
-        ensures opened { OnOk result (self.new ≡ record self.old { levels = opened self.old.levels }) }
+        ensures opened { OnOk result (self.new ≡ record self.old {
+          levels = opened self.old.levels;
+          graphics = graphics_below self.old.graphics;
+          saved = self.old.graphics ∷ self.old.saved;
+        }) }
     {
         if self.store.level() >= MOST_LEVELS {
             return Err(Fault {
@@ -215,6 +234,9 @@ impl State {
             });
         }
         self.store.open();
+        let below = self.graphics.below();
+        self.saved
+            .push_reserved(mem::replace(&mut self.graphics, below));
         Ok(())
     }
 
@@ -223,20 +245,45 @@ impl State {
     pub fn close<L: Ledger>(&mut self, steps: &mut Steps<L>)
         requires { 0 < length self.old.levels.outer }
         ensures levels { self.old.levels.outer ≡ self.new.levels.top ∷ self.new.levels.outer }
-        ensures kept { self.new ≡ record self.old { levels = self.new.levels } }
+        ensures saved { self.old.saved ≡ self.new.graphics ∷ self.new.saved }
+        ensures kept { self.new ≡ record self.old { levels = self.new.levels; graphics = self.new.graphics; saved = self.new.saved } }
         ensures low { steps.old ≤ steps.new }
         ensures high { steps.new ≤ steps.old + self.old.levels.top.settings }
     {
         self.store.close(steps);
+        if let Some(graphics) = self.saved.pop() {
+            self.graphics = graphics;
+        }
     }
 
     /// Closes the last level and counts no steps. This takes no memory.
     pub fn close_uncounted(&mut self)
         requires { 0 < length self.old.levels.outer }
         ensures levels { self.old.levels.outer ≡ self.new.levels.top ∷ self.new.levels.outer }
-        ensures kept { self.new ≡ record self.old { levels = self.new.levels } }
+        ensures saved { self.old.saved ≡ self.new.graphics ∷ self.new.saved }
+        ensures kept { self.new ≡ record self.old { levels = self.new.levels; graphics = self.new.graphics; saved = self.new.saved } }
     {
         self.store.close_uncounted();
+        if let Some(graphics) = self.saved.pop() {
+            self.graphics = graphics;
+        }
+    }
+
+    /// Sets whether what follows is drawn and filled. This takes no memory.
+    pub fn set_paint(&mut self, draw: bool, fill: bool)
+        ensures { self.new ≡ record self.old {
+          graphics = record self.old.graphics { look = record self.old.graphics.look { draw_on = draw; fill_on = fill } };
+        } }
+    {
+        self.graphics.look.draw_on = draw;
+        self.graphics.look.fill_on = fill;
+    }
+
+    /// Where and how is drawn. This takes no memory.
+    pub fn graphics(&self) -> &GraphicsState
+        ensures { result.now ≡ self.now.graphics }
+    {
+        &self.graphics
     }
 }
 

@@ -2,7 +2,6 @@
 
 use crate::{Dir, State};
 use std::alloc::Global;
-use std::process::Abort;
 use std::test::Fail;
 use tk_expand::Input;
 use tk_expr::FontUnits;
@@ -10,30 +9,24 @@ use tk_num::Scaled;
 use tk_store::{Body, Macro};
 use tk_token::{Code, Fault, Kind, Lexed, Refusal, Tok, lex};
 
-fn scaled(rt: &impl Abort, sp: i64) -> Scaled {
-    match Scaled::new(sp) {
-        Some(number) => number,
-        None => {
-            assert!(rt; false, "{sp}");
-            Scaled::default()
-        }
-    }
+/// An em of 10pt and an ex of 4.3pt.
+fn font() -> Option<FontUnits> {
+    Some(FontUnits {
+        em: Scaled::new(655_360)?,
+        ex: Scaled::new(281_805)?,
+    })
 }
 
-/// The state before a run over a text, and the text.
-fn before(
-    rt: &impl Abort,
-    alloc: Global,
-    text: &str,
-    budget: u64,
-) -> Result<(State, Input), Refusal> {
+/// The state before a run over a short text, and the text.
+fn before(alloc: Global, text: &str, budget: u64) -> Result<(State, Input), Fail> {
+    let font = font().ok_or("no font")?;
     let bytes = text.as_bytes();
-    assert!(rt; bytes.len() <= 1_000);
-    let font = FontUnits {
-        em: scaled(rt, 655_360),
-        ex: scaled(rt, 281_805),
+    if bytes.len() > 1_000 {
+        return Err("too long".into());
+    }
+    let Ok(Lexed { toks, names }) = lex(alloc, bytes) else {
+        return Err("no tokens".into());
     };
-    let Lexed { toks, names } = lex(alloc, bytes)?;
     let state = State::new(alloc, names, font, budget)?;
     let input = Input::new(alloc, Body::from_vec(toks)?, 777)?;
     Ok((state, input))
@@ -47,102 +40,109 @@ fn runs(state: &mut State, input: &mut Input) -> Result<bool, Refusal> {
     }
 }
 
-/// Takes what stands next, as text that is read through expansion.
-fn reads(rt: &impl Abort, state: &mut State, input: &mut Input) -> Result<(), Refusal> {
-    // `\x` has a text of 2 tokens, and costs 3 units.
+/// Whether what stands next is that character.
+fn begins(state: &mut State, input: &mut Input, character: char) -> Result<bool, Refusal> {
     let first = state.next_solid(input)?;
-    assert_eq!(rt; first.map(|tok| tok.kind), Some(Kind::Char('a')));
-    assert_eq!(rt; state.used(), 3);
+    Ok(first.map(|tok| tok.kind) == Some(Kind::Char(character)))
+}
+
+/// Takes what stands next, as text that is read through expansion.
+fn reads(state: &mut State, input: &mut Input) -> Result<bool, Refusal> {
+    // `\x` has a text of 2 tokens, and costs 3 units.
+    let is_a = begins(state, input, 'a')?;
+    let is_paid = state.used() == 3;
     state.expect_next(input, Code::Unbuilt, 'b')?;
     // `\y{-}` has one of 2 tokens too.
     state.expect_letters(input, Code::Unbuilt, b"--cycle")?;
-    assert_eq!(rt; state.used(), 6);
-    Ok(())
+    Ok(is_a && is_paid && state.used() == 6)
 }
 
 /// Takes a group and gives its contents.
 fn contents(input: &mut Input) -> Result<Vec<Tok>, Refusal> {
     input.expect_open(Code::Unbuilt)?;
-    match input.group()? {
-        Some(contents) => Ok(contents),
-        None => Err(Refusal::OutOfMemory),
-    }
+    input.group()?.ok_or(Refusal::OutOfMemory)
 }
 
-/// Runs a key list, and settings, with default paths that they change.
-fn sets_keys(rt: &impl Abort, alloc: Global) -> Result<(), Refusal> {
-    let text =
-        r"{/a/.store in=\m,/b/.cd,c/.code={\pgfkeysalso{/d/.cd}},c,/a=5}{{\pgfkeysalso{x/.cd}}\pgfkeysalso{y/.code={\def\m{#1}},y=7}}\m";
-    let (mut state, mut input) = before(rt, alloc, text, 100)?;
-    let list = contents(&mut input)?;
+/// Runs the key list that stands next: whether it ends with that default path and makes that key.
+fn sets_key(alloc: Global, state: &mut State, input: &mut Input) -> Result<bool, Refusal> {
+    let list = contents(input)?;
     let last = state.run_list(Dir::root(alloc), &list, 0)?;
-    assert_eq!(rt; last.as_str(), "/d");
-    assert!(rt; state.store().get_key("/b/c").is_some());
-    let list = contents(&mut input)?;
+    Ok(last.as_str() == "/d" && state.store().get_key("/b/c").is_some())
+}
+
+/// Runs the settings that stand next, as `sets_key`.
+fn sets_below(alloc: Global, state: &mut State, input: &mut Input) -> Result<bool, Refusal> {
+    let list = contents(input)?;
     let last = state.run_settings(Dir::new(alloc, "/p")?, &list, 0)?;
-    assert_eq!(rt; last.as_str(), "/p");
-    assert!(rt; state.store().get_key("/p/y").is_some());
-    let first = state.next(&mut input)?;
-    assert_eq!(rt; first.map(|tok| tok.kind), Some(Kind::Char('7')));
-    sets_macro(rt, alloc, &mut state)
+    Ok(last.as_str() == "/p" && state.store().get_key("/p/y").is_some())
 }
 
 /// A macro lasts to the end of its level.
-fn sets_macro(rt: &impl Abort, alloc: Global, state: &mut State) -> Result<(), Refusal> {
+fn sets_macro(alloc: Global, state: &mut State) -> Result<bool, Refusal> {
     state.open(7)?;
     let value = Macro {
         args: 0,
         body: Body::new(alloc, &[])?,
     };
     state.set_macro(99, value)?;
-    assert!(rt; state.store().get_macro(99).is_some());
+    let is_set = state.store().get_macro(99).is_some();
     state.close_uncounted();
-    assert!(rt; state.store().get_macro(99).is_none());
-    Ok(())
+    Ok(is_set && state.store().get_macro(99).is_none())
 }
 
 /// Opens as many levels as there can be, and one more.
-fn opens(rt: &impl Abort, state: &mut State) -> Result<(), Refusal> {
+fn opens(state: &mut State) -> Result<bool, Refusal> {
     state.open(7)?;
     state.close_uncounted();
     for _ in 0..128 {
         state.open(7)?;
     }
-    let levels = Fault {
-        code: Code::Levels,
-        at: 8,
-    };
-    assert_eq!(rt; state.open(8).err(), Some(levels));
-    Ok(())
+    let code = Code::Levels;
+    Ok(state.open(8).err() == Some(Fault { code, at: 8 }))
 }
 
 /// Expands a list whose word has the same number as in the text.
-fn expands(rt: &impl Abort, alloc: Global, state: &mut State) -> Result<(), Refusal> {
+fn expands(alloc: Global, state: &mut State) -> Result<bool, Refusal> {
     let Lexed { toks, .. } = lex(alloc, br"\def\x")?;
     let expanded = state.expand(toks)?;
-    assert_eq!(rt; expanded.len(), 3);
-    assert_eq!(rt; state.used(), 9);
-    Ok(())
+    Ok(expanded.len() == 3 && state.used() == 9)
 }
 
-fn run(rt: &impl Abort, alloc: Global) -> Result<(), Refusal> {
-    let text = r"\def\x{ab}\newcommand\y[1]{#1#1}\x \y{-}cycle\z";
-    let (mut state, mut input) = before(rt, alloc, text, 9)?;
-    assert!(rt; runs(&mut state, &mut input)? && runs(&mut state, &mut input)?);
-    reads(rt, &mut state, &mut input)?;
+/// What a run over `\def\x{ab}\newcommand\y[1]{#1#1}\x \y{-}cycle\z` does.
+fn holds(alloc: Global, state: &mut State, input: &mut Input) -> Result<bool, Refusal> {
+    let are_made = runs(state, input)? && runs(state, input)?;
+    let is_read = reads(state, input)?;
     // A word that has no macro is a token, and no setting.
-    assert!(rt; !runs(&mut state, &mut input)?);
-    assert_eq!(rt; state.names().word(0), Some("def"));
-    assert_eq!(rt; state.font_units().ex.sp(), 281_805);
-    expands(rt, alloc, &mut state)?;
-    opens(rt, &mut state)?;
-    sets_keys(rt, alloc)
+    let is_token = !runs(state, input)?;
+    let is_first = state.names().word(0) == Some("def");
+    let is_font = state.font_units().ex.sp() == 281_805;
+    let is_expanded = expands(alloc, state)?;
+    Ok(are_made && is_read && is_token && is_first && is_font && is_expanded)
+}
+
+/// Whether calls came to what they should, with no refusal.
+fn met(found: Result<bool, Refusal>) -> bool {
+    matches!(found, Ok(true))
 }
 
 #[test]
 fn a_run_has_its_state(rt: HostRuntime) -> Result<(), Fail> {
-    match run(&rt, rt.alloc()) {
-        Ok(()) => Ok(()),
-        Err(_) => Err("a run was refused".into()),
-    }
+    let text = r"\def\x{ab}\newcommand\y[1]{#1#1}\x \y{-}cycle\z";
+    let (mut state, mut input) = before(rt.alloc(), text, 9)?;
+    assert!(rt; met(holds(rt.alloc(), &mut state, &mut input)));
+    assert!(rt; met(opens(&mut state)));
+    Ok(())
+}
+
+/// Key lists and settings with default paths that they change.
+#[test]
+fn key_lists_have_their_paths(rt: HostRuntime) -> Result<(), Fail> {
+    let text =
+        r"{/a/.store in=\m,/b/.cd,c/.code={\pgfkeysalso{/d/.cd}},c,/a=5}{{\pgfkeysalso{x/.cd}}\pgfkeysalso{y/.code={\def\m{#1}},y=7}}\m";
+    let (mut state, mut input) = before(rt.alloc(), text, 100)?;
+    assert!(rt; met(sets_key(rt.alloc(), &mut state, &mut input)));
+    assert!(rt; met(sets_below(rt.alloc(), &mut state, &mut input)));
+    assert!(rt; met(begins(&mut state, &mut input, '7')));
+    assert!(rt; met(sets_macro(rt.alloc(), &mut state)));
+    Ok(())
 }

@@ -1,6 +1,6 @@
 use Rattle.std.proofs.lemmas.Result.{err_from_is_err_and}
 use Rattle.tk_keys.proofs.Read.{number_found, number_fails}
-use Rattle.tk_keys.proofs.settings.number_of.Goals as goal
+use Rattle.tk_keys.proofs.settings.value_of_text.Goals as goal
 
 pub returns-in_err-found-clause-gives : goal.returns-in_err-found-clause-gives
 returns-in_err-found-clause-gives c =
