@@ -11,8 +11,8 @@ use Rattle.tikzsvg.specs.declared.program.Status.{Status}
 use Rattle.tikzsvg.specs.declared.program.Status.TheVariants as statuses
 use Rattle.tikzsvg.specs.contracts.program.Status.{the_type}
 use Rattle.tikzsvg.specs.Words.{Command, Render}
-use Rattle.tikzsvg.specs.Lines.{fault_line, too_long_line}
-use Rattle.tikzsvg.specs.Run.{World, ComesTo, IsTold, WasRead, WasTooLong, Says, WritesDocument, Done, HasFault, IsTooLong, IsUsage, ReadFails, WriteFails, LacksMemory, DidNotFail, UsesOne, Completes, NamesFault, RefusesLong, Renders, Runs}
+use Rattle.tikzsvg.specs.Lines.{fault_line}
+use Rattle.tikzsvg.specs.Run.{World, ComesTo, IsTold, WasRead, WasTooLong, Says, WritesDocument, Done, HasFault, IsTooLong, ReadFails, WriteFails, LacksMemory, UsesOne, Completes, NamesFault, RefusesLong, Renders, Runs}
 use Rattle.tikzsvg.specs.Endings.{Ends, done, fault, too_long, read_fault, write_fault, out_of_memory, EndsAsAsked}
 
 -- the number of a status

@@ -1,56 +1,72 @@
 -- Paths and documents from their parts, as the code reads them.
-use Rattle.std.proofs.Common.{◌≡◌, ℕ, Bool, true, if◌then◌else◌, List, [], ◌∷◌, Ok, refl, ap, sym, ◌∙◌, codes}
-use Rattle.tk_item.specs.declared.Seg.{Seg}
-use Rattle.tk_item.specs.declared.Seg.TheVariants.{Move, Line, Curve, Close}
+use Rattle.std.proofs.Common.{◌≡◌, ℕ, Bool, true, if◌then◌else◌, List, Ok, subst, ap, sym, ◌∙◌, codes}
 use Rattle.tk_token.specs.declared.Code.TheVariants.{Unbuilt}
-use Rattle.tk_token.specs.declared.Tok.{Tok}
 use Rattle.tk_token.specs.Answers.{Answer, ◌>>=◌, fault}
 use Rattle.tk_characters.specs.Characters.{dash}
 use Rattle.tk_token.specs.Kinds.{is_char}
 use Rattle.tk_token.specs.Spaces.{after_spaces}
-use Rattle.tk_token.proofs.Answering.{then_is}
+use Rattle.tk_token.proofs.Answering.{then_is, fails_then, fails_as}
 use Rattle.tk_expand.specs.Reading.{is_there, after_name}
 use Rattle.tk_expand.specs.Unread.{Unread}
 use Rattle.tk_keys.specs.Environment.{Env, first_env, level}
 use Rattle.tk_keys.specs.Given.{Given}
 use Rattle.tk_picture.specs.declared.Compiled.{Compiled}
-use Rattle.tk_picture.specs.Commands.{BlockOpener, A_picture, Begins_path, Block, block, CommandFlow, with_path, command, commands}
-use Rattle.tk_picture.specs.Configurations.{Configuration, configuration, Progress, with_progress, Lookahead, place_ahead, must_be, behind_next}
+use Rattle.tk_picture.specs.Commands.{A_picture, styled_commands, commands}
+use Rattle.tk_picture.specs.Keys.{with_keys, with_style}
+use Rattle.tk_picture.specs.Configurations.{Configuration, configuration, Progress, Lookahead, place_ahead, misfit, must_be, behind_next}
 use Rattle.tk_picture.specs.Documents.{compiled, nothing_after, picture_behind}
-use Rattle.tk_picture.specs.Flow.{Goes_on}
-use Rattle.tk_picture.specs.Paths.{dashes, path}
-use Rattle.tk_picture.specs.Pictures.{Picture, no_path, first_picture, drawn_by}
+use Rattle.tk_token.specs.declared.Refusal.{Refusal}
+use Rattle.tk_token.specs.Refusals.{Fails}
+use Rattle.tk_token.specs.Texts.{tokens_of}
+use Rattle.tk_picture.specs.Paths.{dashes, plain, path_begun}
+use Rattle.tk_picture.specs.Pictures.{Picture, first_picture}
 
 -- where the first dash is there, the second one is next
 pub dashes_are : (given : Given) (first : Lookahead) → is_there (is_char dash) first.token ≡ true → dashes given first ≡ behind_next given (is_char dash) first.behind
 unfolding dashes must_be
-dashes_are given first there = ap (λ (b : Bool). (if b then Ok first.behind else fault Unbuilt (place_ahead first)) >>= behind_next given (is_char dash)) there
+dashes_are given first there = ap (λ (b : Bool). (if b then Ok first.behind else fault (misfit first.token) (place_ahead first)) >>= behind_next given (is_char dash)) there
 
--- a path is drawn alike whatever was being read
-pub drawn_alike : (segs : List Seg) (pic : Picture) → record (drawn_by segs (record pic { path = record { segs = segs } })) { path = no_path } ≡ drawn_by segs (record pic { path = no_path })
-drawn_alike [] pic = refl
-drawn_alike (Move p ∷ []) pic = refl
-drawn_alike (Move p ∷ x ∷ xs) pic = refl
-drawn_alike (Line p ∷ xs) pic = refl
-drawn_alike (Curve p q r ∷ xs) pic = refl
-drawn_alike (Close ∷ xs) pic = refl
+module _ (given now : Given) (at : ℕ) (list inside : Unread) (new env : Env) (pic : Picture) (same : now ≡ given) (first : new ≡ first_env given) (none : pic ≡ first_picture) (name : after_name Unbuilt (codes "tikzpicture") list ≡ Ok inside) (within : level at new ≡ Ok env) where
+  -- the commands of a picture
+  abbrev inner : Given → Configuration → Answer Progress
+  inner g c = styled_commands g (commands g) (codes "every picture") (A_picture at) c
 
--- a command that draws
-pub path_is_drawn : (given : Given) (rec : Block → Answer Progress) (t : Tok) (opener : BlockOpener) (c : Configuration) (inside : Env) (p : Progress) → level t.at c.env ≡ Ok inside → path given t.at (record c { env = inside }) ≡ Ok p → command given rec Begins_path t opener c ≡ Ok (Goes_on (with_progress c (with_path p)))
-path_is_drawn given rec t opener c inside p within read =
-    then_is (level t.at c.env) (λ inside. path given t.at (record c { env = inside }) >>= λ q. (let a : Answer CommandFlow = Ok (Goes_on (with_progress c (with_path q))) in a)) inside within
-    ∙ then_is (path given t.at (record c { env = inside })) (λ q. (let a : Answer CommandFlow = Ok (Goes_on (with_progress c (with_path q))) in a)) p read
+  -- what stands behind them
+  abbrev last : Progress → Answer Compiled
+  last q = nothing_after (compiled q.picture) (after_spaces q.list.rest)
 
--- a picture with what stands behind it
-pub picture_ends : (given now : Given) (at : ℕ) (list inside : Unread) (new env : Env) (pic : Picture) (p : Progress) → now ≡ given → new ≡ first_env → pic ≡ first_picture → after_name Unbuilt (codes "tikzpicture") list ≡ Ok inside → level at new ≡ Ok env → commands now (block (A_picture at) (configuration env pic inside)) ≡ Ok p → picture_behind given at list ≡ nothing_after (compiled p.picture) (after_spaces p.list.rest)
-unfolding picture_behind
-picture_ends given now at list inside new env pic p same first none name within done =
-    let last : Progress → Answer Compiled = λ q. nothing_after (compiled q.picture) (after_spaces q.list.rest) in
-    let run : Env → Answer Compiled = λ e. commands given (block (A_picture at) (configuration e first_picture inside)) >>= last in
-    let whole : Unread → Answer Compiled = λ u. level at first_env >>= λ e. commands given (block (A_picture at) (configuration e first_picture u)) >>= last in
-    then_is (after_name Unbuilt (codes "tikzpicture") list) whole inside name
-    ∙ then_is (level at first_env) run env (ap (level at) (sym first) ∙ within)
-    ∙ then_is (commands given (block (A_picture at) (configuration env first_picture inside))) last p
-    (ap (λ (start : Picture). commands given (block (A_picture at) (configuration env start inside))) (sym none)
-    ∙ ap (λ (g : Given). commands g (block (A_picture at) (configuration env pic inside))) (sym same)
-    ∙ done)
+  picture_starts : picture_behind given at list ≡ (inner given (configuration env first_picture inside) >>= last)
+  unfolding picture_behind
+  picture_starts =
+      then_is (after_name Unbuilt (codes "tikzpicture") list) (λ u. level at (first_env given) >>= λ e. inner given (configuration e first_picture u) >>= last) inside name
+      ∙ then_is (level at (first_env given)) (λ e. inner given (configuration e first_picture inside) >>= last) env (ap (level at) (sym first) ∙ within)
+
+  same_start : (r : Answer Progress) → inner now (configuration env pic inside) ≡ r → inner given (configuration env first_picture inside) ≡ r
+  same_start r h = ap (λ (start : Picture). inner given (configuration env start inside)) (sym none) ∙ ap (λ (g : Given). inner g (configuration env pic inside)) (sym same) ∙ h
+
+  -- a picture whose commands fail
+  pub picture_fails : (e : Refusal) → Fails e (inner now (configuration env pic inside)) → Fails e (picture_behind given at list)
+  picture_fails e h = fails_as e _ _ picture_starts (fails_then e (inner given (configuration env first_picture inside)) last (subst (Fails e) (sym (same_start (inner now (configuration env pic inside)) (λ _. inner now (configuration env pic inside)))) h))
+
+  -- a picture with what stands behind it
+  pub picture_ends : (p : Progress) → inner now (configuration env pic inside) ≡ Ok p → picture_behind given at list ≡ nothing_after (compiled p.picture) (after_spaces p.list.rest)
+  picture_ends p done = picture_starts ∙ then_is (inner given (configuration env first_picture inside)) last p (same_start (Ok p) done)
+
+module _ (given now : Given) (keys : List ℕ) (at : ℕ) (c d : Configuration) (same : now ≡ given) (is : d ≡ plain c) where
+  -- a path whose style fails
+  pub style_fails : (e : Refusal) → Fails e (with_style now at (codes "every path") d) → Fails e (path_begun given keys at c)
+  unfolding path_begun
+  style_fails e h =
+      fails_then e (with_style given at (codes "every path") (plain c)) _
+      (subst (λ (d : Configuration). Fails e (with_style given at (codes "every path") d)) is
+      (subst (λ (g : Given). Fails e (with_style g at (codes "every path") d)) same h))
+
+  -- a path behind its style
+  pub style_goes : (later : Given) (styled : Configuration) → later ≡ given → with_style now at (codes "every path") d ≡ Ok styled → path_begun given keys at c ≡ with_keys later at (tokens_of at keys) styled
+  unfolding path_begun
+  style_goes later styled so done =
+      then_is (with_style given at (codes "every path") (plain c)) (λ s. with_keys given at (tokens_of at keys) s) styled
+      (ap (λ (d : Configuration). with_style given at (codes "every path") d) (sym is)
+      ∙ ap (λ (g : Given). with_style g at (codes "every path") d) (sym same)
+      ∙ done)
+      ∙ ap (λ (g : Given). with_keys g at (tokens_of at keys) styled) (sym so)

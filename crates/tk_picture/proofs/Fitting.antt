@@ -1,13 +1,16 @@
 -- What is drawn fits a document.
-use Rattle.std.proofs.Common.{◌≡◌, refl, arith, lit<, codes, subst, sym}
+use Rattle.std.proofs.Common.{◌≡◌, List, Option, refl, arith, lit<, codes, subst, sym, ◌∙◌}
 use Rattle.std.proofs.lemmas.Int.{ints}
 use Rattle.std.specs.List.{AllByRecursion}
+use Rattle.std.specs.Prelude.{IfSome}
 use Rattle.tk_item.specs.declared.Drawing.{Drawing}
+use Rattle.tk_item.specs.declared.Frame.{Frame}
+use Rattle.tk_item.specs.declared.Item.{Item}
 use Rattle.tk_item.specs.Frame.{IsProperFrame}
 use Rattle.tk_svg.specs.Document.{IsFamily}
-use Rattle.tk_svg.specs.Fitting.{Fits, FitsItem}
+use Rattle.tk_svg.specs.Fitting.{Fits, FitsItem, IsPath}
 use Rattle.tk_picture.specs.declared.drawer.Drawer.{Drawer}
-use Rattle.tk_picture.specs.Views.{IsSound, OnlyPays}
+use Rattle.tk_picture.specs.Views.{IsSound, OnlyPays, KeepsDrawn}
 
 is_family : IsFamily (codes "monospace")
 is_family = record { some = lit< tt; each = refl }
@@ -28,3 +31,15 @@ fits d p f h = record {
 -- what is drawn fits as before where only units were paid
 pub sound_paid : (old new : Drawer) → OnlyPays old new → IsSound old → IsSound new
 sound_paid old new pays h = subst IsSound (sym pays) (record { items = h.items; paths = h.paths; proper = h.proper })
+
+-- one after the other
+pub drawn_then : (a b c : Drawer) → KeepsDrawn a b → KeepsDrawn b c → KeepsDrawn a c
+drawn_then a b c f g = record { given = g.given ∙ f.given; lists = g.lists ∙ f.lists; outer = g.outer ∙ f.outer; saved = g.saved ∙ f.saved; items = g.items ∙ f.items; frame = g.frame ∙ f.frame }
+
+-- what is drawn fits as before where it stayed
+pub sound_kept : (old new : Drawer) → KeepsDrawn old new → IsSound old → IsSound new
+sound_kept old new kept h = record {
+  items = subst (λ (items : List Item). AllByRecursion FitsItem items) (sym kept.items) h.items;
+  paths = subst (λ (items : List Item). AllByRecursion IsPath items) (sym kept.items) h.paths;
+  proper = subst (λ (frame : Option Frame). IfSome frame IsProperFrame) (sym kept.frame) h.proper;
+}

@@ -1,5 +1,5 @@
 -- Operations and commands one after the other, as the code runs them. What is given stays the same along a loop.
-use Rattle.std.specs.Prelude.{◌≡◌, ◌+◌, ◌<◌, ◌≤◌, length, Option, Some, None, Ok}
+use Rattle.std.specs.Prelude.{◌≡◌, ◌+◌, ◌<◌, ◌≤◌, length, List, ℕ, Option, Some, None, Ok}
 use Rattle.std.specs.Option.{option_to_list}
 use Rattle.std.proofs.Common.{subst, ◌∙◌, arith}
 use Rattle.tk_token.specs.declared.Refusal.{Refusal}
@@ -12,16 +12,19 @@ use Rattle.tk_picture.specs.Commands.{BlockOpener, block, CommandFlow, command_a
 use Rattle.tk_picture.specs.Configurations.{Configuration, Progress, Lookahead, work_at, ahead_of}
 use Rattle.tk_picture.specs.Flow.{Goes_on, Finishes, go_on}
 use Rattle.tk_picture.specs.Paths.{PathOpener, stretch, PathFlow, path_part, operations}
-use Rattle.tk_picture.proofs.Moving.{Looks}
+use Rattle.tk_keys.proofs.Standing.{ok_at}
+use Rattle.tk_picture.specs.Keys.{styled}
+use Rattle.tk_picture.proofs.KeyMoves.{styled_at}
+use Rattle.tk_picture.proofs.Moving.{Comes, Looks}
 use Rattle.tk_picture.proofs.PathMoves as path_moves
-use Rattle.tk_picture.proofs.Unbounded.{any_evaluates, part_less, operations_are, looks_any, Falls, command_falls, commands_are}
-use Rattle.tk_keys.proofs.Ran.{Any}
+use Rattle.tk_picture.proofs.Unbounded.{any_at, any_evaluates, part_less, operations_are, looks_any, Falls, command_falls, commands_are}
+use Rattle.tk_keys.proofs.Ran.{Any, any_evaluates as any_values}
 
 -- ---- operations
 
 -- a part of a path leaves less
 pub part_left : (given : Given) (c d : Configuration) → path_part given c ≡ Ok (Goes_on d) → work_at given d < work_at given c
-part_left given c d e = (known_of (path_moves.PartAt Any given tt (any_evaluates given) c) (path_part given c) (Goes_on d) e (part_less given c)).less.less
+part_left given c d e = (known_of (path_moves.PartAt Any given tt (any_evaluates given) (any_values given) c) (path_part given c) (Goes_on d) e (part_less given c)).less.less
 
 module _ (given now : Given) (same : now ≡ given) (opener : PathOpener) (start c : Configuration) (told : operations given (stretch opener start) ≡ operations given (stretch opener c)) where
   part_of : (r : Answer PathFlow) → path_part now c ≡ r → path_part given c ≡ r
@@ -33,7 +36,7 @@ module _ (given now : Given) (same : now ≡ given) (opener : PathOpener) (start
   pub operations_more : (d : Configuration) → path_part now c ≡ Ok (Goes_on d) → operations given (stretch opener start) ≡ operations given (stretch opener d)
   operations_more d e = operations_go ∙ then_is (path_part given c) (go_on (λ next. operations given (stretch opener next))) (Goes_on d) (part_of (Ok (Goes_on d)) e)
 
-  pub operations_finish : (p : Progress) → path_part now c ≡ Ok (Finishes p) → operations given (stretch opener start) ≡ Ok p
+  pub operations_finish : (p : Configuration) → path_part now c ≡ Ok (Finishes p) → operations given (stretch opener start) ≡ Ok p
   operations_finish p e = operations_go ∙ then_is (path_part given c) (go_on (λ next. operations given (stretch opener next))) (Finishes p) (part_of (Ok (Finishes p)) e)
 
   pub operations_fail : (e : Refusal) → Fails e (path_part now c) → Fails e (operations given (stretch opener start))
@@ -80,3 +83,9 @@ module _ (given now : Given) (same : now ≡ given) (opener : BlockOpener) (star
           by : (token : Option Tok) → work_at given first.behind + length (option_to_list token) ≤ work_at given c → command_at given (commands given) opener token first.behind ≡ Ok (Goes_on d) → work_at given d < work_at given c
           by None w e = absurd cc
           by (Some t) w e = (let k = known_of (Falls given first.behind) (command_at given (commands given) opener (Some t) first.behind) (Goes_on d) e (command_falls given opener (Some t) first.behind) in let a = k.fell.work_falls in omega arith)
+
+-- ---- styles
+
+-- a style and options leave no more than stood before them
+pub styled_work : (given : Given) (at : ℕ) (name : List ℕ) (c d : Configuration) → styled given at name c ≡ Ok d → work_at given d ≤ work_at given c
+styled_work given at name c d e = (known_of (Comes Any given c) (styled given at name c) d e (ok_at Any (Comes Any given c) (styled given at name c) (styled_at Any given tt (any_values given) at name c tt (any_at given c)))).fell.work_falls

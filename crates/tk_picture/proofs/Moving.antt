@@ -61,6 +61,9 @@ module _ (P : ℕ → Type 0) (given : Given) where
   pub then_advances : (c d e : Configuration) → Comes c d → Advances d e → Advances c e
   then_advances c d e a b = record { less = then_less given.budget (stream_at c) (stream_at d) (stream_at e) a.fell b.less; at = b.at }
 
+  pub comes_then : (c d e : Configuration) → Comes c d → Comes d e → Comes c e
+  comes_then c d e a b = record { fell = falls_then given.budget (stream_at c) (stream_at d) (stream_at e) a.fell b.fell; at = b.at }
+
   pub then_returns : (c d : Configuration) (p : Progress) → Comes c d → Returns d p → Returns c p
   then_returns c d p a b = record { fell = falls_then given.budget (stream_at c) (stream_at d) (stream_back p) a.fell b.fell; rest = b.rest; end = b.end }
 

@@ -19,7 +19,7 @@ use Rattle.tk_expr.proofs.Evaluations.{is_evaluated}
 use Rattle.tk_expr.proofs.Runs.{evaluated_is_the_answer}
 use Rattle.tk_expr.specs.declared.FontUnits.{FontUnits}
 use Rattle.tk_keys.specs.Given.{Given, known_words}
-use Rattle.tk_keys.specs.State.{State, first_state, given_of}
+use Rattle.tk_keys.specs.State.{State, IsFirst, given_of}
 use Rattle.tk_picture.specs.declared.Compiled.{Compiled}
 use Rattle.tk_picture.specs.Documents.{document}
 use Rattle.tk_picture.specs.Outcome.{font_units, document_of, IsOutcome, of_tokens}
@@ -32,11 +32,18 @@ use Rattle.tk_picture.proofs.CommandMoves.{document_at}
 abbrev pub given_words : List (List ℕ) → ℕ → Given
 given_words names budget = record { names = known_words names; evaluate = evaluated; font = font_units; budget = budget }
 
+-- what a first state gives
+given_first : (names : List (List ℕ)) (budget : ℕ) (font : FontUnits) (state : State) → IsFirst names font budget state → given_of evaluated state ≡ record { names = known_words names; evaluate = evaluated; font = font; budget = budget }
+given_first names budget font state begun =
+    ap (λ (ns : List (List ℕ)). (let g : Given = record { names = ns; evaluate = evaluated; font = state.font; budget = state.budget } in g)) begun.names
+    ∙ ap (λ (f : FontUnits). (let g : Given = record { names = known_words names; evaluate = evaluated; font = f; budget = state.budget } in g)) begun.font
+    ∙ ap (λ (b : ℕ). (let g : Given = record { names = known_words names; evaluate = evaluated; font = font; budget = b } in g)) begun.budget
+
 -- the code's run is over what is given
-pub ran_over : (names : List (List ℕ)) (budget : ℕ) (font : FontUnits) (state : State) (list : Unread) (toks : List Tok) (end : ℕ) → state ≡ first_state names font budget → font ≡ font_units → list ≡ unread toks end → document (given_of evaluated state) list ≡ document (given_words names budget) (unread toks end)
+pub ran_over : (names : List (List ℕ)) (budget : ℕ) (font : FontUnits) (state : State) (list : Unread) (toks : List Tok) (end : ℕ) → IsFirst names font budget state → font ≡ font_units → list ≡ unread toks end → document (given_of evaluated state) list ≡ document (given_words names budget) (unread toks end)
 ran_over names budget font state list toks end begun units told =
-    ap (λ (s : State). document (given_of evaluated s) list) begun
-    ∙ ap (λ (f : FontUnits). document (given_of evaluated (first_state names f budget)) list) units
+    ap (λ (g : Given). document g list) (given_first names budget font state begun)
+    ∙ ap (λ (f : FontUnits). document (record { names = known_words names; evaluate = evaluated; font = f; budget = budget }) list) units
     ∙ ap (document (given_words names budget)) told
 
 module _ (budget : ℕ) (source : List ℕ) where

@@ -1,41 +1,74 @@
 -- The commands of a picture.
-use Rattle.std.specs.Prelude.{ℕ, if◌then◌else◌, List, [], Option, Some, None, Ok, codes, unwrap_or, slice_get}
+use Rattle.std.specs.Prelude.{ℕ, List, [], ◌∷◌, Option, Some, None, Ok, Err, codes, unwrap_or, slice_get}
+use Rattle.std.specs.Map.{lookup}
 use Rattle.std.specs.Str.{bytes_eq}
 use Rattle.tk_token.specs.declared.Kind.{Kind}
 use Rattle.tk_token.specs.declared.Kind.TheVariants.{Word, Open, Close}
 use Rattle.tk_token.specs.declared.Tok.{Tok}
-use Rattle.tk_token.specs.declared.Code.TheVariants.{Budget, Unbuilt}
-use Rattle.tk_token.specs.Answers.{Answer, ◌>>=◌, fault}
+use Rattle.tk_token.specs.declared.Code.{Code}
+use Rattle.tk_token.specs.declared.Code.TheVariants.{Budget, Unbuilt, UnknownCommand, EndMismatch}
+use Rattle.tk_token.specs.Answers.{Answer, ◌>>=◌, fault, or_fault}
 use Rattle.tk_token.specs.Recursion.{by_size}
 use Rattle.tk_expand.specs.Reading.{after_name}
+use Rattle.tk_expand.specs.Unread.{Unread}
 use Rattle.tk_keys.specs.Environment.{level}
 use Rattle.tk_keys.specs.Given.{Given}
 use Rattle.tk_keys.specs.Settings.{Set, one_setting}
 use Rattle.tk_picture.specs.Flow.{Flow, Goes_on, Finishes, go_on}
+use Rattle.tk_picture.specs.Keys.{styled}
 use Rattle.tk_picture.specs.Paths.{path}
 use Rattle.tk_picture.specs.Pictures.{with_units, drawn}
 use Rattle.tk_picture.specs.Configurations.{Configuration, configuration, Progress, progress, progress_at, with_progress, situation_at, work_at, ahead_of}
 
--- what commands stand in, with its place: a picture, to its `\end{tikzpicture}`, or a group, to its `}`
+-- what commands stand in, with its place: a picture, to its `\end{tikzpicture}`, a scope, to its `\end{scope}`, or a group, to
+-- its `}`
 pub data BlockOpener : Type 0 where
   A_picture : ℕ → BlockOpener
+  A_scope : ℕ → BlockOpener
   A_group : ℕ → BlockOpener
+
+-- where it stands
+abbrev pub place_of_opener : BlockOpener → ℕ
+place_of_opener (A_picture at) = at
+place_of_opener (A_scope at) = at
+place_of_opener (A_group at) = at
+
+-- the name with which `\end` ends it
+abbrev pub end_name : BlockOpener → Option (List ℕ)
+end_name (A_picture at) = Some (codes "tikzpicture")
+end_name (A_scope at) = Some (codes "scope")
+end_name (A_group at) = None
 
 -- what a token begins among the commands of a picture
 pub data Beginning : Type 0 where
-  Begins_path : Beginning
+  -- a path, with the keys that its command stands for
+  Begins_path : List ℕ → Beginning
   Opens_group : Beginning
   Closes_group : Beginning
+  Begins_environment : Beginning
   Ends_environment : Beginning
-  -- a setting, or nothing that is built
+  -- a command that isn't built
+  Begins_later : Beginning
+  -- a setting, or no command
   Begins_other : Beginning
+
+-- each control word that begins or ends something, but for settings
+abbrev pub commands_by_name : List (List ℕ × Beginning)
+commands_by_name =
+    (codes "path", Begins_path (codes ""))
+    ∷ (codes "draw", Begins_path (codes "draw"))
+    ∷ (codes "fill", Begins_path (codes "fill"))
+    ∷ (codes "filldraw", Begins_path (codes "draw,fill"))
+    ∷ (codes "begin", Begins_environment)
+    ∷ (codes "end", Ends_environment)
+    ∷ (codes "node", Begins_later)
+    ∷ (codes "coordinate", Begins_later)
+    ∷ (codes "foreach", Begins_later)
+    ∷ []
 
 -- what a control word begins
 abbrev pub begun_by : List ℕ → Beginning
-begun_by word =
-    if bytes_eq word (codes "draw") then Begins_path
-    else if bytes_eq word (codes "end") then Ends_environment
-    else Begins_other
+begun_by word = unwrap_or (lookup (bytes_eq word) commands_by_name) Begins_other
 
 -- what a token begins
 abbrev pub beginning_of : List (List ℕ) → Kind → Beginning
@@ -57,43 +90,66 @@ block opener start = record { opener = opener; start = start }
 abbrev pub CommandFlow : Type 0
 CommandFlow = Flow Configuration Progress
 
--- the path that was read is drawn
-abbrev pub with_path : Progress → Progress
-with_path p = progress (drawn p.picture) p.list
+-- the path that was read is there, with the look behind it
+abbrev pub with_path_of : Configuration → Progress
+with_path_of c = progress (drawn c.env.graphics.look c.picture) c.list
+
+-- the list behind a name in braces, or else a fault at a place
+abbrev pub named_or : Code → ℕ → Answer Unread → Answer Unread
+named_or code at (Ok list) = Ok list
+named_or code at (Err f) = fault code at
+
+-- the list behind an `\end` at a place, which has to end that
+abbrev pub end_behind : ℕ → BlockOpener → Unread → Answer Unread
+end_behind at opener list = do
+  name ← or_fault (end_name opener) EndMismatch at
+  named_or EndMismatch at (after_name EndMismatch name list)
 
 -- the run goes on behind a setting
 abbrev pub with_setting : Configuration → Set → Configuration
 with_setting c set = configuration set.now.env (with_units c.picture set.now.units) set.list
 
--- a setting that stands there; nothing else is built
-abbrev pub set_or_unbuilt : ℕ → Configuration → Option Set → Answer CommandFlow
-set_or_unbuilt at c None = fault Unbuilt at
-set_or_unbuilt at c (Some set) = Ok (Goes_on (with_setting c set))
+-- a setting that stands there; nothing else is a command
+abbrev pub set_or_unknown : ℕ → Configuration → Option Set → Answer CommandFlow
+set_or_unknown at c None = fault UnknownCommand at
+set_or_unknown at c (Some set) = Ok (Goes_on (with_setting c set))
 
 module _ (given : Given) where
   module _ (commands : Block → Answer Progress) where
+    -- a style and options, and the commands behind them
+    abbrev pub styled_commands : List ℕ → BlockOpener → Configuration → Answer Progress
+    styled_commands name opener c = do
+      begun ← styled given (place_of_opener opener) name c
+      commands (block opener begun)
+
     -- what a command leaves, whose first token was taken
     abbrev pub command : Beginning → Tok → BlockOpener → Configuration → Answer CommandFlow
-    command Begins_path t opener c = do
+    command (Begins_path keys) t opener c = do
       inside ← level t.at c.env
-      path_behind ← path given t.at (record c { env = inside })
-      Ok (Goes_on (with_progress c (with_path path_behind)))
+      end ← path given keys t.at (record c { env = inside })
+      Ok (Goes_on (with_progress c (with_path_of end)))
     command Opens_group t opener c = do
       inside ← level t.at c.env
       group_behind ← commands (block (A_group t.at) (record c { env = inside }))
       Ok (Goes_on (with_progress c group_behind))
     command Closes_group t (A_group at) c = Ok (Finishes (progress_at c))
-    command Ends_environment t (A_picture at) c = do
-      list ← after_name Unbuilt (codes "tikzpicture") c.list
+    command Closes_group t opener c = fault EndMismatch t.at
+    command Begins_environment t opener c = do
+      list ← named_or UnknownCommand t.at (after_name UnknownCommand (codes "scope") c.list)
+      inside ← level t.at c.env
+      scope_behind ← styled_commands (codes "every scope") (A_scope t.at) (configuration inside c.picture list)
+      Ok (Goes_on (with_progress c scope_behind))
+    command Ends_environment t opener c = do
+      list ← end_behind t.at opener c.list
       Ok (Finishes (progress c.picture list))
+    command Begins_later t opener c = fault Unbuilt t.at
     command Begins_other t opener c = do
       set ← one_setting given t (situation_at c) c.list
-      set_or_unbuilt t.at c set
-    command _ t opener c = fault Unbuilt t.at
+      set_or_unknown t.at c set
 
-    -- the same where the token is there; where the list runs out, nothing is built
+    -- the same where the token is there; where the list runs out, what was opened is left open
     abbrev pub command_at : BlockOpener → Option Tok → Configuration → Answer CommandFlow
-    command_at opener None c = fault Unbuilt c.list.end
+    command_at opener None c = fault EndMismatch (place_of_opener opener)
     command_at opener (Some t) c = command (beginning_of given.names t.kind) t opener c
 
     -- one command, and those that follow it

@@ -1,8 +1,9 @@
 -- How far a run has come in a picture.
-use Rattle.std.specs.Prelude.{ℕ, Bool, if◌then◌else◌, List, Option, Ok}
+use Rattle.std.specs.Prelude.{ℕ, Bool, if◌then◌else◌, List, Option, None, Some, Ok}
 use Rattle.tk_token.specs.declared.Kind.{Kind}
 use Rattle.tk_token.specs.declared.Tok.{Tok}
-use Rattle.tk_token.specs.declared.Code.TheVariants.{Unbuilt}
+use Rattle.tk_token.specs.declared.Code.{Code}
+use Rattle.tk_token.specs.declared.Code.TheVariants.{PathSyntax, Unbuilt}
 use Rattle.tk_token.specs.Answers.{Answer, ◌>>=◌, fault}
 use Rattle.tk_expand.specs.Unread.{Unread}
 use Rattle.tk_expand.specs.Expand.{Stream, stream, work}
@@ -65,9 +66,14 @@ lookahead token behind = record { token = token; behind = behind }
 abbrev pub place_ahead : Lookahead → ℕ
 place_ahead ahead = place_of ahead.behind.list.end ahead.token
 
--- what is behind the token, which has to be such a one; else it isn't built
+-- what no built form begins with: a token of one that isn't built, or nothing, where the list runs out in a path
+abbrev pub misfit : Option Tok → Code
+misfit None = PathSyntax
+misfit (Some t) = Unbuilt
+
+-- what is behind the token, which has to be such a one
 unfoldable pub must_be : (Kind → Bool) → Lookahead → Answer Configuration
-must_be wanted ahead = if is_there wanted ahead.token then Ok ahead.behind else fault Unbuilt (place_ahead ahead)
+must_be wanted ahead = if is_there wanted ahead.token then Ok ahead.behind else fault (misfit ahead.token) (place_ahead ahead)
 
 module _ (given : Given) where
   -- the work that is left

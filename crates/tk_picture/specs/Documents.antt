@@ -13,7 +13,7 @@ use Rattle.tk_token.specs.Spaces.{after_spaces}
 use Rattle.tk_keys.specs.Environment.{first_env, level}
 use Rattle.tk_keys.specs.Given.{Given}
 use Rattle.tk_picture.specs.declared.Compiled.{Compiled}
-use Rattle.tk_picture.specs.Commands.{A_picture, block, commands}
+use Rattle.tk_picture.specs.Commands.{A_picture, styled_commands, commands}
 use Rattle.tk_picture.specs.Configurations.{configuration}
 use Rattle.tk_picture.specs.Pictures.{Picture, first_picture}
 
@@ -40,11 +40,11 @@ module _ (given : Given) where
   unfoldable pub picture_behind : ℕ → Unread → Answer Compiled
   picture_behind at list = do
     inside ← after_name Unbuilt (codes "tikzpicture") list
-    env ← level at first_env
-    end ← commands given (block (A_picture at) (configuration env first_picture inside))
+    env ← level at (first_env given)
+    end ← styled_commands given (commands given) (codes "every picture") (A_picture at) (configuration env first_picture inside)
     nothing_after (compiled end.picture) (after_spaces end.list.rest)
 
-  -- a whole source: `\begin{tikzpicture}`, commands and `\end{tikzpicture}`
+  -- a whole source: `\begin{tikzpicture}`, options, commands and `\end{tikzpicture}`
   unfoldable pub document : Unread → Answer Compiled
   document list = do
     first ← next_token Unbuilt (past_spaces list)

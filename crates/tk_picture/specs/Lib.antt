@@ -3,6 +3,7 @@ pub mod Configurations
 pub mod Coordinates
 pub mod Documents
 pub mod Flow
+pub mod Keys
 pub mod Outcome
 pub mod Paths
 pub mod Pictures

@@ -5,7 +5,7 @@ ghost use Rattle.tk_token.specs.Answers.{Answer};
 ghost use Rattle.tk_token.specs.Recursion.{by_size};
 ghost use Rattle.tk_keys.specs.Given.{Given};
 ghost use Rattle.tk_picture.specs.declared.Compiled.{Compiled as ACompiled};
-ghost use Rattle.tk_picture.specs.Configurations.{Progress};
+ghost use Rattle.tk_picture.specs.Configurations.{Configuration, Progress};
 ghost use Rattle.tk_picture.specs.Commands.{Block, block_work, commands, commands_step};
 ghost use Rattle.tk_picture.specs.Outcome.{IsOutcome};
 ghost use Rattle.tk_picture.specs.Paths.{Stretch, stretch_work, operations, operations_step};
@@ -30,7 +30,7 @@ pub fn operations_are_their_step()
 
 /// They are the same whatever the answer is where no work is left: no bound on how deep the steps go is met.
 pub fn operations_are_never_stuck()
-    ensures { (given : Given) (stuck : Answer Progress) (s : Stretch)
+    ensures { (given : Given) (stuck : Answer Configuration) (s : Stretch)
         → operations given s ≡ by_size (stretch_work given) stuck (operations_step given) s }
 {}
 

@@ -4,11 +4,13 @@
 mod commands;
 mod coordinate;
 mod drawer;
+mod keys;
 mod laws;
 mod path;
 mod picture;
 #[cfg(test)]
 mod tests;
+mod trace;
 
 pub use laws::{
     a_source_has_one_outcome, commands_are_never_stuck, commands_are_their_step,

@@ -1,6 +1,6 @@
 //! Whole sources.
 
-ghost use Rattle.std.specs.Prelude.{◌≡◌, ◌≤◌, [], List, Ok, Err, length, take, IfOk, IfErr, OnOk, IfSome, codes, unwrap_or};
+ghost use Rattle.std.specs.Prelude.{◌≡◌, ◌≤◌, List, Ok, Err, length, take, IfOk, IfErr, OnOk, IfSome, codes, unwrap_or};
 ghost use Rattle.std.specs.List.{AllByRecursion};
 ghost use Rattle.std.specs.Str.{IsUtf8};
 ghost use Rattle.tk_item.specs.Frame.{IsProperFrame};
@@ -12,6 +12,7 @@ ghost use Rattle.tk_picture.specs.declared.Compiled.{Compiled as ACompiled};
 ghost use Rattle.tk_picture.specs.Documents.{is_word, no_frame, compiled, nothing_after, picture_behind, document};
 ghost use Rattle.tk_picture.specs.Outcome.{IsOutcome, font_units};
 ghost use Rattle.tk_picture.specs.Views.{given_to, picture_of, IsSound, IsNew};
+ghost use Rattle.tk_picture.specs.Pictures.{no_path};
 
 use crate::Compiled;
 use crate::commands::BlockOpener;
@@ -77,7 +78,7 @@ impl Drawer {
     #[tactic(auto, unfolding(crate::specs::Documents::document))]
     fn document(&mut self, input: &mut Input) -> Result<(), Refusal>
         requires { IsNew self.old }
-        ensures gives { Gives (λ _. compiled (picture_of self.new [])) result (document (given_to self.old) input.old) }
+        ensures gives { Gives (λ _. compiled (picture_of self.new no_path)) result (document (given_to self.old) input.old) }
         ensures sound { OnOk result (IsSound self.new) }
     {
         input.skip_spaces();
@@ -92,12 +93,12 @@ impl Drawer {
     #[tactic(auto, unfolding(crate::specs::Documents::picture_behind))]
     fn picture(&mut self, input: &mut Input, at: u32) -> Result<(), Refusal>
         requires { IsNew self.old }
-        ensures gives { Gives (λ _. compiled (picture_of self.new [])) result (picture_behind (given_to self.old) at input.old) }
+        ensures gives { Gives (λ _. compiled (picture_of self.new no_path)) result (picture_behind (given_to self.old) at input.old) }
         ensures sound { OnOk result (IsSound self.new) }
     {
         input.expect_name(Code::Unbuilt, b"tikzpicture")?;
         self.state.open(at)?;
-        self.commands(input, BlockOpener::Picture(at))?;
+        self.styled_commands(input, "every picture", BlockOpener::Picture(at))?;
         Ok(expect_nothing(input)?)
     }
 
@@ -127,10 +128,9 @@ fn expect_nothing(input: &mut Input) -> Result<(), Fault>
 }
 
 /// What a picture has drawn and paid.
-#[tactic(auto, using(crate::proofs::Fitting::fits))]
 fn compiled(alloc: Global, drawer: Drawer) -> Result<Compiled, AllocError>
     requires { IsSound drawer }
-    ensures compiled { IfOk result (λ c. c ≡ compiled (picture_of drawer [])) }
+    ensures compiled { IfOk result (λ c. c ≡ compiled (picture_of drawer no_path)) }
     ensures fits { IfOk result (λ c. Fits c.drawing) }
     ensures paths { IfOk result (λ c. AllByRecursion IsPath c.drawing.items) }
 {

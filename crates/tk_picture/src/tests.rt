@@ -3,14 +3,13 @@
 
 use super::*;
 use std::alloc::{AllocError, Global};
-use std::process::Abort;
 use std::test::Fail;
 use tk_item::{Frame, Item, Seg};
 use tk_token::{Code, Fault, Refusal};
 
 /// A line of a picture, the budget, and the units that it costs with the paths that it draws, or its fault with the column,
 /// counted from 1. One centimetre is 1,864,679 scaled points.
-const LINES: [(&str, u64, &str); 64] = [
+const LINES: [(&str, u64, &str); 67] = [
     ("", 0, "0"),
     (r"\draw (0,0) -- (1,0);", 0, "0, M 0 0 L 1864679 0"),
     // A Move alone draws nothing.
@@ -52,7 +51,7 @@ const LINES: [(&str, u64, &str); 64] = [
         "2, M 0 0 L 3729358 0",
     ),
     (r"{\def\x{1}}\draw (0,0) -- (\x,0);", 9, "Expression 28"),
-    (r"{\def\x{\draw}}\x (0,0);", 9, "Unbuilt 16"),
+    (r"{\def\x{\draw}}\x (0,0);", 9, "UnknownCommand 16"),
     (r"{\draw (0,0) -- (1,0);}{}{ }", 0, "0, M 0 0 L 1864679 0"),
     // Paths are read through expansion, letter by letter.
     (
@@ -96,7 +95,7 @@ const LINES: [(&str, u64, &str); 64] = [
     (r"\def\x{1}\draw (\x,0)--(1/0,0);", 1, "Budget 17"),
     (r"\def\x{1}\draw (1/0,0)--(\x,0);", 1, "DivZero 18"),
     (r"\draw (600,0) -- (0,0;", 0, "TooLarge 7"),
-    (r"\draw (0,0) -- (1/0,0", 0, "Unbuilt 41"),
+    (r"\draw (0,0) -- (1/0,0", 0, "Coordinate 16"),
     // An argument is missing at the end of a group, and of a coordinate's text.
     (r"\def\h#1{#1}{\h}", 99, "MacroArg 14"),
     (r"\def\h#1{#1}\draw (\h)--(0,0);", 99, "MacroArg 20"),
@@ -147,16 +146,33 @@ const LINES: [(&str, u64, &str); 64] = [
     (r"\def\n{a}\pgfkeys{/\n/.code=,/\n}", 5, "5"),
     (r"\def\n{a}\pgfkeys{/\n/.code=,/\n}", 4, "Budget 30"),
     (r"\def\n{a}\pgfkeys{/\n/.code=,/\n}", 3, "Budget 31"),
-    // Forms that aren't built.
-    (r"{\end{tikzpicture}}", 9, "Unbuilt 2"),
-    (r"\begin{scope}", 9, "Unbuilt 1"),
-    (r"{x}", 9, "Unbuilt 2"),
+    // A path begins at the image of the origin, and goes on where its last subpath ended.
+    (
+        r"\draw -- (1,0) -- cycle -- (0,1);",
+        0,
+        "0, M 0 0 L 1864679 0 Z M 0 0 L 0 1864679",
+    ),
+    (r"\path (0,0) -- (1,0);\draw (0,0) (1,0);", 0, "0"),
+    // Options cost what they call: `\x` has a text of one token.
+    (
+        r"\def\x{1}\draw[x=\x pt] (0,0) -- (2,0);",
+        2,
+        "2, M 0 0 L 131072 0",
+    ),
+    (r"\def\x{1}\draw[x=\x pt] (0,0) -- (2,0);", 1, "Budget 18"),
+    (
+        r"\begin{scope}[xshift=1pt]\draw (0,0) -- (1,0);\end{scope}",
+        0,
+        "0, M 65536 0 L 1930215 0",
+    ),
+    // Commands that aren't known, and forms that aren't built.
+    (r"{\end{tikzpicture}}", 9, "EndMismatch 2"),
+    (r"\begin{scope}", 9, "EndMismatch 15"),
+    (r"{x}", 9, "UnknownCommand 2"),
     (r"\draw (0,0) - - (1,0);", 0, "Unbuilt 14"),
     (r"\draw (0,0) -- cy cle;", 0, "Unbuilt 18"),
-    (r"\draw (0,0) -- cycle -- (1,0);", 0, "Unbuilt 22"),
-    (r"\draw (0,0) (1,0);", 0, "Unbuilt 13"),
     (r"\draw (0,0) {};", 9, "Unbuilt 13"),
-    (r"{\draw (0,0}", 9, "Unbuilt 12"),
+    (r"{\draw (0,0}", 9, "Coordinate 8"),
     (r"\def\c{1-|0}\draw (0,0)--(\c);", 9, "Unbuilt 26"),
     (r"\draw (1,2,3);", 0, "Coordinate 7"),
 ];
@@ -199,16 +215,20 @@ fn fault_shown(alloc: Global, fault: Fault) -> Result<String, AllocError> {
         Code::DivZero => "DivZero",
         Code::TooLarge => "TooLarge",
         Code::Unbuilt => "Unbuilt",
+        Code::UnknownCommand => "UnknownCommand",
+        Code::EndMismatch => "EndMismatch",
         _ => "?",
     };
     let column = fault.at.saturating_sub(19);
     format!(in alloc; "{name} {column}")
 }
 
-fn outcome(rt: &impl Abort, alloc: Global, source: &str, budget: u64) -> Result<String, Fail> {
+/// What comes of a short source with a small budget.
+fn outcome(alloc: Global, source: &str, budget: u64) -> Result<String, Fail> {
     let bytes = source.as_bytes();
-    assert!(rt; bytes.len() <= 1_000);
-    assert!(rt; budget <= 1_000);
+    if bytes.len() > 1_000 || budget > 1_000 {
+        return Err("too much".into());
+    }
     match compile(alloc, bytes, budget) {
         Ok(compiled) => Ok(shown(alloc, &compiled)?),
         Err(Refusal::Fault(fault)) => Ok(fault_shown(alloc, fault)?),
@@ -216,37 +236,47 @@ fn outcome(rt: &impl Abort, alloc: Global, source: &str, budget: u64) -> Result<
     }
 }
 
+/// Whether that comes of a picture's line.
+fn comes(alloc: Global, line: &str, budget: u64, wanted: &str) -> Result<bool, Fail> {
+    let source = format!(in alloc; "\\begin{{tikzpicture}}\n{line}\n\\end{{tikzpicture}}\n")?;
+    let given = outcome(alloc, source.as_str(), budget)?;
+    Ok(given.as_str() == wanted)
+}
+
 #[test]
 fn lines_cost_and_draw(rt: HostRuntime) -> Result<(), Fail> {
-    let alloc = rt.alloc();
     for (line, budget, wanted) in &LINES {
-        let source = format!(in alloc; "\\begin{{tikzpicture}}\n{line}\n\\end{{tikzpicture}}\n")?;
-        let given = outcome(&rt, alloc, source.as_str(), *budget)?;
-        assert_eq!(rt; given.as_str(), *wanted, "{line}");
+        assert!(rt;
+            comes(rt.alloc(), line, *budget, wanted)?,
+            "{line}, {budget}"
+        );
     }
     Ok(())
 }
 
+/// A line of a path in so many groups.
+fn grouped(alloc: Global, groups: u32) -> Result<String, AllocError> {
+    let mut line = String::new(alloc);
+    for _ in 0..groups {
+        line.push('{')?;
+    }
+    line.push_str(r"\draw (0,0)--(1,0);")?;
+    for _ in 0..groups {
+        line.push('}')?;
+    }
+    Ok(line)
+}
+
 #[test]
 fn a_hundred_and_twenty_eight_levels_can_be_open(rt: HostRuntime) -> Result<(), Fail> {
-    let alloc = rt.alloc();
     // The picture is the first level, and a path is one more.
     for (groups, wanted) in [
         (126, "0, M 0 0 L 1864679 0"),
         (127, "Levels 128"),
         (128, "Levels 128"),
     ] {
-        let mut source = format!(in alloc; "\\begin{{tikzpicture}}\n")?;
-        for _ in 0..groups {
-            source.push('{')?;
-        }
-        source.push_str(r"\draw (0,0)--(1,0);")?;
-        for _ in 0..groups {
-            source.push('}')?;
-        }
-        source.push_str("\n\\end{tikzpicture}\n")?;
-        let given = outcome(&rt, alloc, source.as_str(), 0)?;
-        assert_eq!(rt; given.as_str(), wanted, "{groups}");
+        let line = grouped(rt.alloc(), groups)?;
+        assert!(rt; comes(rt.alloc(), line.as_str(), 0, wanted)?, "{groups}");
     }
     Ok(())
 }

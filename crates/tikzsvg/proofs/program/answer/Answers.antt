@@ -1,4 +1,4 @@
-use Rattle.std.proofs.Common.{refl, sym, subst}
+use Rattle.std.proofs.Common.{refl, subst}
 use Rattle.tikzsvg.specs.declared.program.Status.TheVariants.{Usage}
 use Rattle.tikzsvg.specs.Run.{world}
 use Rattle.tikzsvg.specs.Endings.{EndsAsAsked}

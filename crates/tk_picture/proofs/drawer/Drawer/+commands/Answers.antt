@@ -1,16 +1,15 @@
-use Rattle.std.proofs.Common.{rules, arith, ap, ◌∙◌, [], Ok, codes}
-use Rattle.tk_token.specs.declared.Code.TheVariants.{Unbuilt}
-use Rattle.tk_token.proofs.Answering.{then_is}
-use Rattle.tk_expand.specs.Reading.{after_name}
+use Rattle.std.proofs.Common.{rules, arith, ap, ◌∙◌}
+use Rattle.tk_picture.specs.Pictures.{no_path}
 use Rattle.tk_keys.specs.Given.{Given}
-use Rattle.tk_picture.specs.Commands.{CommandFlow}
-use Rattle.tk_picture.specs.Configurations.{progress}
-use Rattle.tk_picture.specs.Flow.{Finishes}
 use Rattle.tk_picture.specs.declared.drawer.Drawer.{Drawer}
-use Rattle.tk_picture.specs.Views.{given_to, picture_of, configuration_of, progress_of, lookahead_of, opener_of}
-use Rattle.tk_token.specs.Answers.{Answer}
-use Rattle.tk_picture.proofs.Fitting.{sound_paid}
-use Rattle.tk_picture.proofs.Loops.{front_fails, taken_work, commands_more, commands_finish, command_fails, command_less}
+use Rattle.tk_picture.specs.Views.{given_to, configuration_of, progress_of, lookahead_of, opener_of}
+use Rattle.std.proofs.lemmas.Result.{err_from_is_err_and}
+use Rattle.tk_expr.specs.Evaluated.{evaluated}
+use Rattle.tk_keys.specs.State.{State, env_of, given_of}
+use Rattle.tk_picture.specs.Configurations.{Configuration, configuration}
+use Rattle.tk_picture.proofs.Fitting.{sound_paid, sound_kept}
+use Rattle.tk_picture.proofs.Scopes.{scope_fails, scope_ends}
+use Rattle.tk_picture.proofs.Loops.{styled_work, front_fails, taken_work, commands_more, commands_finish, command_fails, command_less}
 use Rattle.tk_picture.proofs.drawer.Drawer.+commands.Goals as goal
 
 pub command-returns-in-Path-clause-gives : goal.command-returns-in-Path-clause-gives
@@ -19,22 +18,20 @@ command-returns-in-Path-clause-gives t c = rw c.in-Path.is (c.draw.ensures.gives
 pub command-returns-in-OpenGroup-clause-gives : goal.command-returns-in-OpenGroup-clause-gives
 command-returns-in-OpenGroup-clause-gives t c = rw c.in-OpenGroup.is (c.group.ensures.gives (opener_of c.args.opener))
 
-pub command-returns-in_ok-expect_name-in-Picture-opener-clause-gives :
-    goal.command-returns-in_ok-expect_name-in-Picture-opener-clause-gives
-command-returns-in_ok-expect_name-in-Picture-opener-clause-gives t c =
-    rw c.in-EndEnvironment.is (rw c.in-Picture-opener.is (then_is (after_name Unbuilt (codes "tikzpicture") c.args.input.now) (λ list. (let a : Answer CommandFlow = Ok (Finishes (progress (picture_of c.args.self.now []) list)) in a)) c.expect_name.new.self c.in_ok-expect_name-in-Picture-opener.ensures.gives))
+pub command-returns-in-BeginEnvironment-clause-gives : goal.command-returns-in-BeginEnvironment-clause-gives
+command-returns-in-BeginEnvironment-clause-gives t c = rw c.in-BeginEnvironment.is (c.scope.ensures.gives (opener_of c.args.opener))
 
 pub command-returns-in-Other-clause-gives : goal.command-returns-in-Other-clause-gives
 command-returns-in-Other-clause-gives t c = rw c.in-Other.is (c.set.ensures.gives (opener_of c.args.opener))
 
 pub commands-returns-in_err-first-clause-gives : goal.commands-returns-in_err-first-clause-gives
 commands-returns-in_err-first-clause-gives t c =
-    let e = front_fails (given_to c.args.self.now) (given_to c.loop-first.self) c.loop-first.invariant.kept.given (opener_of c.args.opener) (configuration_of c.args.self.now [] c.args.input.now) (configuration_of c.loop-first.self [] c.loop-first.input) c.loop-first.invariant.told c.in_err-first.field-0.0 (c.in_err-first.ensures.gives []) in
+    let e = front_fails (given_to c.args.self.now) (given_to c.loop-first.self) c.loop-first.invariant.kept.given (opener_of c.args.opener) (configuration_of c.args.self.now no_path c.args.input.now) (configuration_of c.loop-first.self no_path c.loop-first.input) c.loop-first.invariant.told c.in_err-first.field-0.0 (c.in_err-first.ensures.gives no_path) in
     search rules
 
 pub commands-command_at-requires : goal.commands-command_at-requires
 commands-command_at-requires t c =
-    let w = taken_work (given_to c.args.self.now) (given_to c.loop-first.self) c.loop-first.invariant.kept.given (opener_of c.args.opener) (configuration_of c.args.self.now [] c.args.input.now) (configuration_of c.loop-first.self [] c.loop-first.input) c.loop-first.invariant.told (lookahead_of c.in_ok-first.first c.ahead.new.self [] c.ahead.new.input) (c.in_ok-first.ensures.gives []) in
+    let w = taken_work (given_to c.args.self.now) (given_to c.loop-first.self) c.loop-first.invariant.kept.given (opener_of c.args.opener) (configuration_of c.args.self.now no_path c.args.input.now) (configuration_of c.loop-first.self no_path c.loop-first.input) c.loop-first.invariant.told (lookahead_of c.in_ok-first.first c.ahead.new.self no_path c.ahead.new.input) (c.in_ok-first.ensures.gives no_path) in
     let kept = ap (λ (g : Given). g.budget) c.loop-first.invariant.kept.given in
     let paid = ap (λ (g : Given). g.budget) (ap given_to c.in_ok-first.ensures.pays) in
     (omega (arith, w, kept, paid, c.loop-first.invariant.work), sound_paid c.loop-first.self c.ahead.new.self c.in_ok-first.ensures.pays c.loop-first.invariant.sound)
@@ -43,14 +40,14 @@ pub commands-returns-in_err-command_at-clause-gives :
     goal.commands-returns-in_err-command_at-clause-gives
 commands-returns-in_err-command_at-clause-gives t c =
     let same = c.loop-first.invariant.kept.given in
-    let e = command_fails (given_to c.args.self.now) (given_to c.loop-first.self) same (opener_of c.args.opener) (configuration_of c.args.self.now [] c.args.input.now) (configuration_of c.loop-first.self [] c.loop-first.input) c.loop-first.invariant.told (lookahead_of c.in_ok-first.first c.ahead.new.self [] c.ahead.new.input) (c.in_ok-first.ensures.gives []) (given_to c.ahead.new.self) (ap given_to c.in_ok-first.ensures.pays ∙ same) c.in_err-command_at.field-0.0 c.in_err-command_at.ensures.gives in
+    let e = command_fails (given_to c.args.self.now) (given_to c.loop-first.self) same (opener_of c.args.opener) (configuration_of c.args.self.now no_path c.args.input.now) (configuration_of c.loop-first.self no_path c.loop-first.input) c.loop-first.invariant.told (lookahead_of c.in_ok-first.first c.ahead.new.self no_path c.ahead.new.input) (c.in_ok-first.ensures.gives no_path) (given_to c.ahead.new.self) (ap given_to c.in_ok-first.ensures.pays ∙ same) c.in_err-command_at.field-0.0 c.in_err-command_at.ensures.gives in
     search rules
 
 pub commands-loop-first-smaller : goal.commands-loop-first-smaller
 commands-loop-first-smaller t c =
     let same = c.loop-first.invariant.kept.given in
     let later = ap given_to c.in_ok-first.ensures.pays ∙ same in
-    let less = command_less (given_to c.args.self.now) (given_to c.loop-first.self) same (opener_of c.args.opener) (configuration_of c.args.self.now [] c.args.input.now) (configuration_of c.loop-first.self [] c.loop-first.input) c.loop-first.invariant.told (lookahead_of c.in_ok-first.first c.ahead.new.self [] c.ahead.new.input) (c.in_ok-first.ensures.gives []) (given_to c.ahead.new.self) later (configuration_of c.command_at.new.self [] c.command_at.new.input) (rw c.in-GoesOn.is at c.in_ok-command_at.ensures.gives) in
+    let less = command_less (given_to c.args.self.now) (given_to c.loop-first.self) same (opener_of c.args.opener) (configuration_of c.args.self.now no_path c.args.input.now) (configuration_of c.loop-first.self no_path c.loop-first.input) c.loop-first.invariant.told (lookahead_of c.in_ok-first.first c.ahead.new.self no_path c.ahead.new.input) (c.in_ok-first.ensures.gives no_path) (given_to c.ahead.new.self) later (configuration_of c.command_at.new.self no_path c.command_at.new.input) (rw c.in-GoesOn.is at c.in_ok-command_at.ensures.gives) in
     let kept = ap (λ (g : Given). g.budget) same in
     let now = ap (λ (g : Given). g.budget) (c.in_ok-command_at.ensures.kept.given ∙ later) in
     omega (arith, less, kept, now)
@@ -59,18 +56,20 @@ pub commands-loop-first-preserved : goal.commands-loop-first-preserved
 commands-loop-first-preserved t c =
     let same = c.loop-first.invariant.kept.given in
     let later = ap given_to c.in_ok-first.ensures.pays ∙ same in
-    let less = command_less (given_to c.args.self.now) (given_to c.loop-first.self) same (opener_of c.args.opener) (configuration_of c.args.self.now [] c.args.input.now) (configuration_of c.loop-first.self [] c.loop-first.input) c.loop-first.invariant.told (lookahead_of c.in_ok-first.first c.ahead.new.self [] c.ahead.new.input) (c.in_ok-first.ensures.gives []) (given_to c.ahead.new.self) later (configuration_of c.command_at.new.self [] c.command_at.new.input) (rw c.in-GoesOn.is at c.in_ok-command_at.ensures.gives) in
+    let less = command_less (given_to c.args.self.now) (given_to c.loop-first.self) same (opener_of c.args.opener) (configuration_of c.args.self.now no_path c.args.input.now) (configuration_of c.loop-first.self no_path c.loop-first.input) c.loop-first.invariant.told (lookahead_of c.in_ok-first.first c.ahead.new.self no_path c.ahead.new.input) (c.in_ok-first.ensures.gives no_path) (given_to c.ahead.new.self) later (configuration_of c.command_at.new.self no_path c.command_at.new.input) (rw c.in-GoesOn.is at c.in_ok-command_at.ensures.gives) in
     let kept = ap (λ (g : Given). g.budget) same in
     let now = ap (λ (g : Given). g.budget) (c.in_ok-command_at.ensures.kept.given ∙ later) in
     let lists = ap (λ (d : Drawer). d.state.lists) c.in_ok-first.ensures.pays in
     let outer = ap (λ (d : Drawer). d.state.levels.outer) c.in_ok-first.ensures.pays in
+    let saved = ap (λ (d : Drawer). d.state.saved) c.in_ok-first.ensures.pays in
     record {
-      told = commands_more (given_to c.args.self.now) (given_to c.loop-first.self) same (opener_of c.args.opener) (configuration_of c.args.self.now [] c.args.input.now) (configuration_of c.loop-first.self [] c.loop-first.input) c.loop-first.invariant.told (lookahead_of c.in_ok-first.first c.ahead.new.self [] c.ahead.new.input) (c.in_ok-first.ensures.gives []) (given_to c.ahead.new.self) later (configuration_of c.command_at.new.self [] c.command_at.new.input) (rw c.in-GoesOn.is at c.in_ok-command_at.ensures.gives);
+      told = commands_more (given_to c.args.self.now) (given_to c.loop-first.self) same (opener_of c.args.opener) (configuration_of c.args.self.now no_path c.args.input.now) (configuration_of c.loop-first.self no_path c.loop-first.input) c.loop-first.invariant.told (lookahead_of c.in_ok-first.first c.ahead.new.self no_path c.ahead.new.input) (c.in_ok-first.ensures.gives no_path) (given_to c.ahead.new.self) later (configuration_of c.command_at.new.self no_path c.command_at.new.input) (rw c.in-GoesOn.is at c.in_ok-command_at.ensures.gives);
       sound = c.in_ok-command_at.ensures.sound;
       kept = record {
         given = c.in_ok-command_at.ensures.kept.given ∙ later;
         lists = c.in_ok-command_at.ensures.kept.lists ∙ lists ∙ c.loop-first.invariant.kept.lists;
         outer = c.in_ok-command_at.ensures.kept.outer ∙ outer ∙ c.loop-first.invariant.kept.outer;
+        saved = c.in_ok-command_at.ensures.kept.saved ∙ saved ∙ c.loop-first.invariant.kept.saved;
       };
       work = omega (arith, less, kept, now, c.loop-first.invariant.work);
     }
@@ -78,4 +77,30 @@ commands-loop-first-preserved t c =
 pub commands-returns-in-Finishes-clause-gives : goal.commands-returns-in-Finishes-clause-gives
 commands-returns-in-Finishes-clause-gives t c =
     let same = c.loop-first.invariant.kept.given in
-    commands_finish (given_to c.args.self.now) (given_to c.loop-first.self) same (opener_of c.args.opener) (configuration_of c.args.self.now [] c.args.input.now) (configuration_of c.loop-first.self [] c.loop-first.input) c.loop-first.invariant.told (lookahead_of c.in_ok-first.first c.ahead.new.self [] c.ahead.new.input) (c.in_ok-first.ensures.gives []) (given_to c.ahead.new.self) (ap given_to c.in_ok-first.ensures.pays ∙ same) (progress_of c.command_at.new.self [] c.command_at.new.input) (rw c.in-Finishes.is at c.in_ok-command_at.ensures.gives)
+    commands_finish (given_to c.args.self.now) (given_to c.loop-first.self) same (opener_of c.args.opener) (configuration_of c.args.self.now no_path c.args.input.now) (configuration_of c.loop-first.self no_path c.loop-first.input) c.loop-first.invariant.told (lookahead_of c.in_ok-first.first c.ahead.new.self no_path c.ahead.new.input) (c.in_ok-first.ensures.gives no_path) (given_to c.ahead.new.self) (ap given_to c.in_ok-first.ensures.pays ∙ same) (progress_of c.command_at.new.self no_path c.command_at.new.input) (rw c.in-Finishes.is at c.in_ok-command_at.ensures.gives)
+
+pub styled_commands-commands-requires : goal.styled_commands-commands-requires
+styled_commands-commands-requires t c =
+    let kept = c.in_ok-run_styled.ensures.kept in
+    let w = styled_work (given_to c.args.self.now) c.place.result c.args.name.now (configuration_of c.args.self.now no_path c.args.input.now) (configuration_of c.run_styled.new.self no_path c.run_styled.new.input) (c.in_ok-run_styled.ensures.gives no_path) in
+    let budget = ap (λ (g : Given). g.budget) kept.given in
+    (omega (arith, w, budget), sound_kept c.args.self.now c.run_styled.new.self kept (search rules))
+
+pub scope-styled_commands-requires : goal.scope-styled_commands-requires
+scope-styled_commands-requires t c =
+    let short = c.in_ok-expect_named.ensures.shorter in
+    let budget = ap (λ (s : State). s.budget) c.in_ok-open.ensures.opened in
+    let units = ap (λ (s : State). s.units) c.in_ok-open.ensures.opened in
+    (omega (arith, short, budget, units), record { items = c.requires.sound.items; paths = c.requires.sound.paths; proper = c.requires.sound.proper })
+
+pub scope-returns-in_err-styled_commands-clause-gives : goal.scope-returns-in_err-styled_commands-clause-gives
+scope-returns-in_err-styled_commands-clause-gives t c opener =
+    let p = err_from_is_err_and c.from_residual-in_err-styled_commands.result c.from_residual-in_err-styled_commands.ensures.1 in
+    let d : State → Configuration = λ s. configuration (env_of c.open.new.self) (record { items = c.args.self.now.items; frame = c.args.self.now.frame; units = s.units; path = no_path }) c.expect_named.new.input in
+    rw (p.1, p.2) (scope_fails (given_to c.args.self.now) c.args.first opener (configuration_of c.args.self.now no_path c.args.input.now) c.expect_named.new.input (env_of c.open.new.self) c.in_ok-expect_named.ensures.gives c.in_ok-open.ensures.gives (given_of evaluated c.open.new.self) (ap (given_of evaluated) c.in_ok-open.ensures.opened) (d c.open.new.self) (ap d c.in_ok-open.ensures.opened) c.in_err-styled_commands.field-0.0 c.in_err-styled_commands.ensures.gives)
+
+pub scope-returns-clause-gives : goal.scope-returns-clause-gives
+scope-returns-clause-gives t c opener =
+    let d : State → Configuration = λ s. configuration (env_of c.open.new.self) (record { items = c.args.self.now.items; frame = c.args.self.now.frame; units = s.units; path = no_path }) c.expect_named.new.input in
+    let e = scope_ends (given_to c.args.self.now) c.args.first opener (configuration_of c.args.self.now no_path c.args.input.now) c.expect_named.new.input (env_of c.open.new.self) c.in_ok-expect_named.ensures.gives c.in_ok-open.ensures.gives (given_of evaluated c.open.new.self) (ap (given_of evaluated) c.in_ok-open.ensures.opened) (d c.open.new.self) (ap d c.in_ok-open.ensures.opened) (progress_of c.styled_commands.new.self no_path c.styled_commands.new.input) c.in_ok-styled_commands.ensures.gives in
+    search rules

@@ -1,4 +1,5 @@
-use Rattle.std.proofs.Common.{◌≡◌, ◌+◌, ◌-◌, ◌*◌, ◌≤◌, [], length}
+use Rattle.std.proofs.Common.{◌≡◌, ◌+◌, ◌-◌, ◌*◌, ◌≤◌, length}
+use Rattle.tk_picture.specs.Pictures.{no_path}
 use Rattle.std.specs.Option.{option_to_list}
 use Rattle.tk_picture.specs.Commands.{block, commands}
 use Rattle.tk_picture.specs.Views.{given_to, configuration_of, opener_of, IsSound, KeepsGiven}
@@ -16,9 +17,15 @@ decreases-command l = 4 * ((l.self.now.state.budget - l.self.now.state.units) + 
 abbrev pub decreases-group : goal.decreases-group
 decreases-group l = 4 * ((l.self.now.state.budget - l.self.now.state.units) + length l.input.now.rest) + 4
 
+abbrev pub decreases-styled_commands : goal.decreases-styled_commands
+decreases-styled_commands l = 4 * ((l.self.now.state.budget - l.self.now.state.units) + length l.input.now.rest) + 4
+
+abbrev pub decreases-scope : goal.decreases-scope
+decreases-scope l = 4 * ((l.self.now.state.budget - l.self.now.state.units) + length l.input.now.rest) + 4
+
 abbrev pub invariant-commands-loop-first : goal.invariant-commands-loop-first
 invariant-commands-loop-first l = record {
-  told : commands (given_to l.fn.self) (block (opener_of l.opener) (configuration_of l.fn.self [] l.fn.input)) ≡ commands (given_to l.fn.self) (block (opener_of l.opener) (configuration_of l.self [] l.input));
+  told : commands (given_to l.fn.self) (block (opener_of l.opener) (configuration_of l.fn.self no_path l.fn.input)) ≡ commands (given_to l.fn.self) (block (opener_of l.opener) (configuration_of l.self no_path l.input));
   sound : IsSound l.self;
   kept : KeepsGiven l.fn.self l.self;
   work : (l.self.state.budget - l.self.state.units) + length l.input.rest ≤ (l.fn.self.state.budget - l.fn.self.state.units) + length l.fn.input.rest;
