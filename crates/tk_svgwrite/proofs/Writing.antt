@@ -17,7 +17,7 @@ use Rattle.tk_item.specs.declared.Item.TheVariants.{Path}
 use Rattle.tk_item.specs.declared.Drawing.{Drawing}
 use Rattle.tk_svg.specs.Document.{declaration}
 use Rattle.tk_svgwrite.specs.Plain.{attribute_text, attributes_text, Setting, setting, differing, numbers_text, rgb_text, rule_text, cap_text, join_text, dash_text, data_text, fill_settings, stroke_settings, item_text, frame_width, frame_height, points_text, box_text, svg_attributes, svg_text, document_text}
-use Rattle.tk_svgwrite.specs.Looks.{look_text}
+use Rattle.tk_svgwrite.specs.Presentations.{presentation_text}
 use Rattle.tk_svgwrite.proofs.Paint.{all_fit, dash_no_none}
 
 -- a number behind a space
@@ -81,14 +81,14 @@ some_dashes before opened now x xs ds is o n h d =
 -- ---- elements
 
 -- what stands behind the data of a path
-pub look_parts : (before quoted filled drawn all : List ℕ) (fill : Option Fill) (stroke : Option Stroke)
+pub presentation_parts : (before quoted filled drawn all : List ℕ) (fill : Option Fill) (stroke : Option Stroke)
     → before ≡ []
     → quoted ≡ before ++ codes "\""
     → filled ≡ quoted ++ settings_text (fill_settings fill)
     → drawn ≡ filled ++ settings_text (stroke_settings stroke)
     → all ≡ drawn ++ codes "/>\n"
-    → all ≡ look_text fill stroke
-look_parts before quoted filled drawn all fill stroke none q f d e =
+    → all ≡ presentation_text fill stroke
+presentation_parts before quoted filled drawn all fill stroke none q f d e =
     e
     ∙ ap (λ (w : List ℕ). w ++ codes "/>\n") (d ∙ ap (λ (w : List ℕ). w ++ settings_text (stroke_settings stroke)) (f ∙ ap (λ (w : List ℕ). w ++ settings_text (fill_settings fill)) (q ∙ ap (λ (w : List ℕ). w ++ codes "\"") none)))
     ∙ ap (λ (w : List ℕ). w ++ codes "/>\n") (append_assoc (codes "\"") (settings_text (fill_settings fill)) (settings_text (stroke_settings stroke)))
@@ -100,12 +100,12 @@ path_shape before p o d q s t = simp append_assoc
 pub path_parts : (before opened described all : List ℕ) (segs : List Seg) (fill : Option Fill) (stroke : Option Stroke)
     → opened ≡ before ++ codes "<path d=\""
     → described ≡ opened ++ data_text segs
-    → all ≡ described ++ look_text fill stroke
+    → all ≡ described ++ presentation_text fill stroke
     → all ≡ before ++ item_text (Path segs fill stroke)
 unfolding item_text
 path_parts before opened described all segs fill stroke o d e =
     e
-    ∙ ap (λ (w : List ℕ). w ++ look_text fill stroke) (d ∙ ap (λ (w : List ℕ). w ++ data_text segs) o)
+    ∙ ap (λ (w : List ℕ). w ++ presentation_text fill stroke) (d ∙ ap (λ (w : List ℕ). w ++ data_text segs) o)
     ∙ path_shape before (codes "<path") (codes " d=\"") (data_text segs) (codes "\"") (settings_text (fill_settings fill ++ stroke_settings stroke)) (codes "/>\n")
 
 pub svg_parts : (before now : List ℕ) (d : Drawing) → now ≡ (before ++ codes "<svg") ++ attributes_text (svg_attributes d) → now ++ codes ">\n" ≡ before ++ svg_text d

@@ -1,3 +1,3 @@
-pub mod Looks
 pub mod Plain
+pub mod Presentations
 pub mod Ranges

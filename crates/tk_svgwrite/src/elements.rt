@@ -8,13 +8,13 @@ ghost use Rattle.tk_item.specs.declared.Item.TheVariants.{Path};
 ghost use Rattle.tk_svg.specs.Document.{IsFamily};
 ghost use Rattle.tk_svg.specs.Fitting.{Fits, FitsBox};
 ghost use Rattle.tk_svgwrite.specs.Plain.{attribute_text, attributes_text, differing, fill_settings, stroke_settings, item_text, points_text, numbers_text, box_text, frame_width, frame_height, svg_text};
-ghost use Rattle.tk_svgwrite.specs.Looks.{IsKept};
+ghost use Rattle.tk_svgwrite.specs.Presentations.{IsKept};
 ghost use Rattle.tk_svgwrite.specs.Ranges.{FillInRange, StrokeInRange, StrokeNumbersInRange, ItemInRange};
 
 use crate::attributes::{
     close_attribute, open_attribute, put_attribute, put_dashes, put_number_setting, put_setting,
 };
-use crate::looks::Look;
+use crate::presentation::Presentation;
 use crate::values::{
     cap_word, join_word, put_data, put_number, put_pair, put_scaled, rgb_digits, rule_word,
 };
@@ -22,32 +22,36 @@ use std::alloc::AllocError;
 use tk_item::{Drawing, Fill, Frame, Item, Seg, Stroke, Text};
 use tk_num::Scaled;
 
-/// Writes the element of an item. Labels are not written. `look` is that of the path before.
+/// Writes the element of an item. Labels are not written. `presentation` is that of the path before.
 #[tactic(auto, unfolding(crate::specs::Plain::item_text))]
-pub fn put_item(out: &mut Vec<u8>, look: &mut Look, item: &Item) -> Result<(), AllocError>
-    requires { IsKept look.old }
+pub fn put_item(
+    out: &mut Vec<u8>,
+    presentation: &mut Presentation,
+    item: &Item,
+) -> Result<(), AllocError>
+    requires { IsKept presentation.old }
     ensures text { OnOk result (out.new.items ≡ out.old.items ++ item_text item.now) }
     ensures range { OnOk result (ItemInRange item.now) }
-    ensures kept { OnOk result (IsKept look.new) }
+    ensures kept { OnOk result (IsKept presentation.new) }
 {
     match item {
         Item::Path(segs, fill, stroke) => {
-            look.set(*fill, stroke)?;
-            put_path(out, segs.as_slice(), look)
+            presentation.set(*fill, stroke)?;
+            put_path(out, segs.as_slice(), presentation)
         }
         Item::Label(_) => Ok(()),
     }
 }
 
 /// Writes the element of a path that looks so.
-fn put_path(out: &mut Vec<u8>, segs: &[Seg], look: &Look) -> Result<(), AllocError>
-    requires { IsKept look.now }
-    ensures text { OnOk result (out.new.items ≡ out.old.items ++ item_text (Path segs.now look.now.fill look.now.stroke)) }
-    ensures range { OnOk result (ItemInRange (Path segs.now look.now.fill look.now.stroke)) }
+fn put_path(out: &mut Vec<u8>, segs: &[Seg], presentation: &Presentation) -> Result<(), AllocError>
+    requires { IsKept presentation.now }
+    ensures text { OnOk result (out.new.items ≡ out.old.items ++ item_text (Path segs.now presentation.now.fill presentation.now.stroke)) }
+    ensures range { OnOk result (ItemInRange (Path segs.now presentation.now.fill presentation.now.stroke)) }
 {
     out.extend_from_slice(b"<path d=\"")?;
     put_data(out, segs)?;
-    out.extend_from_slice(look.as_slice())?;
+    out.extend_from_slice(presentation.as_slice())?;
     Ok(())
 }
 

@@ -14,13 +14,13 @@ ghost use Rattle.tk_svgwrite.specs.Plain.{document_text};
 
 mod attributes;
 mod elements;
-mod looks;
+mod presentation;
 #[cfg(test)]
 mod tests;
 mod values;
 
 use elements::{put_item, put_svg};
-use looks::Look;
+use presentation::Presentation;
 use std::alloc::{AllocError, Global};
 use tk_item::Drawing;
 
@@ -37,11 +37,11 @@ pub fn write_svg(alloc: Global, drawing: &Drawing) -> Result<Vec<u8>, AllocError
 {
     let items = drawing.items.as_slice();
     let mut out = Vec::with_capacity(alloc, items.len().saturating_mul(LINE))?;
-    let mut look = Look::new(alloc)?;
+    let mut presentation = Presentation::new(alloc)?;
     out.extend_from_slice(b"<?xml version=\"1.0\" encoding=\"UTF-8\"?>\n")?;
     put_svg(&mut out, drawing)?;
     for item in items {
-        put_item(&mut out, &mut look, item)?;
+        put_item(&mut out, &mut presentation, item)?;
     }
     out.extend_from_slice(b"</svg>\n")?;
     Ok(out)

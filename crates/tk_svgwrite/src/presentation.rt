@@ -1,8 +1,8 @@
-//! How paths look. What is written of a path behind its data is kept, and copied for each path that looks
-//! like the one before.
+//! How paths look, as the attributes of SVG that present them. What is written of a path behind its data is kept, and copied
+//! for each path that looks like the one before.
 
 ghost use Rattle.std.specs.Prelude.{◌≡◌, ◌∷◌, ◌++◌, [], OnOk, IfOk, IsTrue, Some};
-ghost use Rattle.tk_svgwrite.specs.Looks.{look_text, IsLook, IsKept};
+ghost use Rattle.tk_svgwrite.specs.Presentations.{presentation_text, IsPresentation, IsKept};
 
 use crate::elements::{put_fill, put_stroke};
 use std::alloc::{AllocError, Global};
@@ -12,27 +12,27 @@ use tk_item::{Dashes, Fill, Stroke};
 /// filled, and drawn in black with a width of 1, these are `" fill="none" stroke="#000000"/>` and a line
 /// feed.
 #[derive(Drop)]
-pub struct Look {
+pub struct Presentation {
     fill: Option<Fill>,
     stroke: Option<Stroke>,
     text: Vec<u8>,
 }
 
-impl Look {
-    /// The look of a path that is neither filled nor drawn.
-    pub fn new(alloc: Global) -> Result<Look, AllocError>
+impl Presentation {
+    /// The presentation of a path that is neither filled nor drawn.
+    pub fn new(alloc: Global) -> Result<Presentation, AllocError>
         ensures { IfOk result IsKept }
     {
         let mut text = Vec::new(alloc);
-        put_look(&mut text, None, &None)?;
-        Ok(Look {
+        put_presentation(&mut text, None, &None)?;
+        Ok(Presentation {
             fill: None,
             stroke: None,
             text,
         })
     }
 
-    /// Becomes the look of this fill and stroke. The bytes are found anew only where it was another.
+    /// Becomes the presentation of this fill and stroke. The bytes are found anew only where it was another.
     pub fn set(&mut self, fill: Option<Fill>, stroke: &Option<Stroke>) -> Result<(), AllocError>
         requires { IsKept self.old }
         ensures kept { OnOk result (IsKept self.new) }
@@ -43,13 +43,13 @@ impl Look {
             return Ok(());
         }
         self.text.clear();
-        put_look(&mut self.text, fill, stroke)?;
+        put_presentation(&mut self.text, fill, stroke)?;
         self.fill = fill;
         self.stroke = copy_of(stroke);
         Ok(())
     }
 
-    /// The bytes of the look.
+    /// The bytes of the presentation.
     pub fn as_slice(&self) -> &[u8]
         ensures { result.now ≡ self.now.text.items }
     {
@@ -57,14 +57,14 @@ impl Look {
     }
 }
 
-/// Writes the bytes of a look.
-fn put_look(
+/// Writes the bytes of a presentation.
+fn put_presentation(
     out: &mut Vec<u8>,
     fill: Option<Fill>,
     stroke: &Option<Stroke>,
 ) -> Result<(), AllocError>
     requires { out.old.items ≡ [] }
-    ensures { OnOk result (IsLook fill stroke.now out.new.items) }
+    ensures { OnOk result (IsPresentation fill stroke.now out.new.items) }
 {
     out.push(b'"')?;
     put_fill(out, fill)?;

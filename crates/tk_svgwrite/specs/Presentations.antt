@@ -4,19 +4,19 @@ use Rattle.tk_item.specs.declared.Fill.{Fill}
 use Rattle.tk_item.specs.declared.Stroke.{Stroke}
 use Rattle.tk_svgwrite.specs.Plain.{attributes_text, differing, fill_settings, stroke_settings}
 use Rattle.tk_svgwrite.specs.Ranges.{FillInRange, StrokeInRange}
-use Rattle.tk_svgwrite.specs.declared.looks.Look.{Look}
+use Rattle.tk_svgwrite.specs.declared.presentation.Presentation.{Presentation}
 
 -- the quote behind the data, the attributes of fill and stroke, and the end of the tag
-abbrev pub look_text : Option Fill → Option Stroke → List ℕ
-look_text fill stroke =
+abbrev pub presentation_text : Option Fill → Option Stroke → List ℕ
+presentation_text fill stroke =
     codes "\"" ++ attributes_text (differing (fill_settings fill ++ stroke_settings stroke)) ++ codes "/>\n"
 
 -- the bytes are what is written of this fill and this stroke, whose numbers are in range
-pub record IsLook (fill : Option Fill) (stroke : Option Stroke) (bytes : List ℕ) : Type 0 where
-  pub text : bytes ≡ look_text fill stroke
+pub record IsPresentation (fill : Option Fill) (stroke : Option Stroke) (bytes : List ℕ) : Type 0 where
+  pub text : bytes ≡ presentation_text fill stroke
   pub colours : FillInRange fill
   pub numbers : StrokeInRange stroke
 
--- a look is kept with the bytes that belong to it
-abbrev pub IsKept : Look → Type 0
-IsKept look = IsLook look.fill look.stroke look.text.items
+-- a presentation is kept with the bytes that belong to it
+abbrev pub IsKept : Presentation → Type 0
+IsKept presentation = IsPresentation presentation.fill presentation.stroke presentation.text.items

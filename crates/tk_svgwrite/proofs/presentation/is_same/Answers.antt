@@ -2,7 +2,7 @@ use Rattle.std.proofs.Common.{rules, ◌≡◌, ◌∙◌, sym}
 use Rattle.std.proofs.lemmas.Bool.Decides.{Decides-int_eq}
 use Rattle.std.proofs.lemmas.Slice.Eq.{slice_eq-Decides}
 use Rattle.tk_svgwrite.proofs.Strokes.{same_stroke, same_number}
-use Rattle.tk_svgwrite.proofs.looks.is_same.Goals as goal
+use Rattle.tk_svgwrite.proofs.presentation.is_same.Goals as goal
 
 pub returns : goal.returns
 returns c h =
