@@ -8,13 +8,12 @@ mod inverses;
 mod laws;
 mod numbers;
 mod steps;
-#[cfg(test)]
-mod tests;
 
 pub use directions::along;
 pub use images::{apply, apply_vector};
 pub use inverses::{corner, inverse_apply};
 pub use laws::{steps_go_on, unmoved_is_neutral, unmoved_points_stay};
+pub use numbers::{difference, point};
 pub use steps::{concat, identity};
 use tk_num::Scaled;
 

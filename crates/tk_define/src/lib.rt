@@ -4,8 +4,6 @@
 mod commands;
 mod head;
 mod parts;
-#[cfg(test)]
-mod tests;
 
 pub use commands::read_definition;
 use tk_store::Macro;

@@ -15,6 +15,7 @@ ghost use Rattle.tk_expand.specs.Unread.{unread, past_spaces};
 use crate::rest::{Rest, Stop};
 use std::alloc::{AllocError, Global};
 use std::marker::Model;
+use std::mem;
 use tk_store::Body;
 use tk_token::{Code, Fault, Kind, Refusal, Tok, depth_after};
 
@@ -25,6 +26,8 @@ pub struct Input {
     alloc: Global,
     stack: Vec<Rest>,
     end: u32,
+    /// Memory for the next list that is taken.
+    spare: Vec<Tok>,
 }
 
 impl Model for Input {
@@ -50,6 +53,7 @@ impl Input {
             alloc,
             stack: Vec::new(alloc),
             end,
+            spare: Vec::new(alloc),
         };
         input.push(list)?;
         Ok(input)
@@ -135,6 +139,13 @@ impl Input {
         self.before(Stop::Char(stop))
     }
 
+    /// The memory of tokens that are done with serves the next list that is taken. This takes no memory.
+    pub fn keep(&mut self, memory: Vec<Tok>)
+        ensures { self.new ≡ self.old }
+    {
+        self.spare = memory;
+    }
+
     /// Takes the contents of a group whose `{` was taken, and its `}`. There are none exactly where the list ends before
     /// that `}`; then nothing is taken.
     pub fn group(&mut self) -> Result<Option<Vec<Tok>>, AllocError>
@@ -211,9 +222,10 @@ impl Input {
         if self.stack.is_empty() {
             return Ok(None);
         }
+        let memory = mem::replace(&mut self.spare, Vec::new(self.alloc));
         let last = self.stack.len() - 1;
         let list = &mut self.stack[last];
-        let Some(front) = list.take_before(self.alloc, stop)? else {
+        let Some(front) = list.take_before(memory, stop)? else {
             return Ok(None);
         };
         if !list.is_empty() {

@@ -7,8 +7,6 @@ mod input;
 mod laws;
 mod reading;
 mod rest;
-#[cfg(test)]
-mod tests;
 mod units;
 
 pub use ahead::is_there;

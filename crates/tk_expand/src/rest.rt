@@ -5,7 +5,7 @@ ghost use Rattle.std.specs.Option.{option_map};
 ghost use Rattle.tk_token.specs.Groups.{cut};
 ghost use Rattle.tk_expand.specs.Stops.{is_stop, sought_of, before_stop};
 
-use std::alloc::{AllocError, Global};
+use std::alloc::AllocError;
 use std::marker::Model;
 use tk_store::Body;
 use tk_token::{Kind, Sought, Tok, first_outside};
@@ -97,10 +97,11 @@ impl Rest {
         tok
     }
 
-    /// Takes the tokens before the first stop outside braces, and the stop; where there is none, nothing is taken.
+    /// Takes the tokens before the first stop outside braces, and the stop, into memory whose own tokens are gone; where there
+    /// is none, nothing is taken.
     pub(crate) fn take_before(
         &mut self,
-        alloc: Global,
+        memory: Vec<Tok>,
         stop: Stop,
     ) -> Result<Option<Vec<Tok>>, AllocError>
         ensures gives { IfOk result
@@ -111,8 +112,18 @@ impl Rest {
         let Some((front, rest)) = first_outside(self.as_slice(), stop.sought()) else {
             return Ok(None);
         };
-        let front = Vec::from_slice(alloc, front)?;
+        let front = copied(memory, front)?;
         self.from = self.list.as_slice().len() - rest.len() + 1;
         Ok(Some(front))
     }
+}
+
+/// The same tokens, in memory whose own tokens are gone.
+fn copied(memory: Vec<Tok>, list: &[Tok]) -> Result<Vec<Tok>, AllocError>
+    ensures { IfOk result (λ copy. copy.items ≡ list.now) }
+{
+    let mut copy = memory;
+    copy.clear();
+    copy.extend_from_slice(list)?;
+    Ok(copy)
 }

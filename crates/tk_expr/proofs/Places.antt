@@ -553,7 +553,7 @@ vector_at x y at (Polar angle v w) Good e =
 -- ---- places of a text
 
 -- the place of an empty text is one
-own_place : (at : ℕ) (ts : List Tok) → IsPlaceOf at ts at
+pub own_place : (at : ℕ) (ts : List Tok) → IsPlaceOf at ts at
 own_place at [] = refl
 own_place at (t ∷ ts) = inr (own_place at ts)
 
@@ -562,7 +562,7 @@ places_more : (at : ℕ) (t : Tok) (ts us : List Tok) → Within (IsPlaceOf at t
 places_more at t ts [] h = tt
 places_more at t ts (u ∷ us) h = (inr h.0, places_more at t ts us h.1)
 
-all_places : (at : ℕ) (ts : List Tok) → Within (IsPlaceOf at ts) ts
+pub all_places : (at : ℕ) (ts : List Tok) → Within (IsPlaceOf at ts) ts
 all_places at [] = tt
 all_places at (t ∷ ts) = (inl refl, places_more at t ts ts (all_places at ts))
 

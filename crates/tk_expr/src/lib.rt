@@ -12,8 +12,6 @@ mod pieces;
 mod plain;
 mod settle;
 mod steps;
-#[cfg(test)]
-mod tests;
 mod values;
 
 pub use evaluation::eval;
@@ -21,8 +19,9 @@ pub use laws::{
     a_fault_of_a_pair_stands_in_its_text, a_fault_of_a_vector_stands_at_its_place,
     a_fault_stands_in_its_text, a_text_has_one_answer, evaluated_is_the_answer,
 };
-pub use pairs::{pair, vector};
+pub use pairs::{length_along, pair, vector};
 use tk_num::Scaled;
+pub use values::placed;
 
 /// The units of the font, in scaled points.
 #[derive(Clone, Copy, Debug, Default, PartialEq, Eq)]

@@ -110,8 +110,9 @@ pub fn pair(list: &[Tok], font: FontUnits, at: u32) -> Result<Option<ValuePair>,
     paired(list, &font, at)
 }
 
-/// The length of a number along a vector of that length.
-fn length_along(vector: Scaled, value: Value, at: u32) -> Found
+/// The length of a value along a vector of that length, in scaled points: a number with a unit is a length, and one without
+/// counts vectors. `TooLarge` stands at `at`.
+pub fn length_along(vector: Scaled, value: Value, at: u32) -> Result<Scaled, Fault>
     ensures { result ≡ spec.length_along vector at value }
 {
     if value.unit {

@@ -31,9 +31,9 @@ fn code_of(fault: NumFault) -> Code
     }
 }
 
-/// A number that stands at a place, or its fault there.
+/// A number that stands at a place, or its fault there: `TooLarge`, `DivZero` or `Domain`.
 #[inline(always)]
-pub(crate) fn placed(at: u32, number: Result<Scaled, NumFault>) -> Found
+pub fn placed(at: u32, number: Result<Scaled, NumFault>) -> Result<Scaled, Fault>
     ensures { result ≡ spec.placed at number }
 {
     match number {

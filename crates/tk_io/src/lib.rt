@@ -12,8 +12,6 @@ mod shelves;
 mod sinks;
 mod streams;
 mod sure;
-#[cfg(test)]
-mod tests;
 mod writing;
 
 ghost use Rattle.std.specs.Prelude.{◌≡◌, List, ℕ, true};

@@ -5,8 +5,6 @@ mod bounds;
 mod dashes;
 mod laws;
 mod lists;
-#[cfg(test)]
-mod tests;
 
 pub use bounds::{half_width, widen};
 pub use dashes::Dashes;

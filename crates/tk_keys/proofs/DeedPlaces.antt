@@ -55,10 +55,6 @@ module _ (P : ℕ → Type 0) where
   pub later_then : (s r q : Situation) → Later s r → Later r q → Later s q
   later_then s r q f g = record { units = (let a = f.units in let b = g.units in omega arith); levels = g.levels ∙ f.levels; lists = g.lists ∙ f.lists; env = g.env }
 
-  pub later_at : {A : Type 0} (now : A → Situation) (s r : Situation) (m : Answer A) → Later s r → Stands P (λ a. Later r (now a)) m → Stands P (λ a. Later s (now a)) m
-  later_at now s r (Ok a) f g = later_then s r (now a) f g
-  later_at now s r (Err e) f g = g
-
   paid_at : (budget units cost at : ℕ) → P at → Stands P (λ _. Unit {0}) (pay budget units cost at)
   paid_at budget units cost at p = if_at P (λ _. Unit {0}) (nat_lt budget (units + cost)) _ _ p tt
 

@@ -13,3 +13,5 @@ pub mod Standing
 pub mod Tables
 pub mod Words
 pub mod Beginning
+pub mod Natives
+pub mod Painted

@@ -17,7 +17,8 @@ use Rattle.tk_look.specs.declared.GraphicsState.{GraphicsState}
 use Rattle.tk_look.specs.Graphics.{initial_graphics, graphics_below}
 use Rattle.tk_keys.specs.Given.{Given, also_word}
 
--- what words and keys mean at a place, where and how is drawn there, how many levels are open, and how many key lists run
+-- what words and keys mean at a place, where and how what follows is drawn, how many levels are open, and how many key
+-- lists run
 pub record Env : Type 0 where
   pub macros : Macros
   pub keys : Keys

@@ -135,7 +135,8 @@ module _ (given : Given) where
     text ← full given.budget s.env.macros (stream s.units (unread list at))
     Ok (record { value = Some text.list.rest; units = text.units })
 
-  -- a native key, with the name by which it was asked: its value is expanded, and then it sets where and how is drawn
+  -- a native key, with the name by which it was asked: its value is expanded, and then it sets where and how what
+  -- follows is drawn
   abbrev pub set_native : ℕ → List ℕ → Native → Option (List Tok) → Situation → Answer Deed
   set_native at name key value s = do
     expanded ← expanded_value at value s

@@ -1,7 +1,9 @@
+pub mod DefaultPaths
 pub mod Environment
 pub mod Given
 pub mod Keys
 pub mod Made
+pub mod Painting
 pub mod Settings
 pub mod State
 pub mod Views

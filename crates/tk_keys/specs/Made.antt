@@ -1,13 +1,12 @@
 -- Private: only private contracts use this. The numbers of the words that a run makes itself, and the keys that are there
 -- from the beginning.
-use Rattle.std.specs.Prelude.{◌≡◌, ℕ, List, []}
+use Rattle.std.specs.Prelude.{◌≡◌, ℕ, List, [], codes}
 use Rattle.std.specs.FinMap as finmap
 use Rattle.tk_store.specs.declared.Entry.{Entry}
 use Rattle.tk_store.specs.Levels.{Levels}
 use Rattle.tk_keys.specs.Environment.{initial_entries, with_entries}
 use Rattle.tk_keys.specs.declared.state.MadeWords.{MadeWords}
 use Rattle.tk_token.specs.Words.{word_number}
-use Rattle.std.specs.Prelude.{codes}
 
 -- the numbers are those of the words
 pub record AreMade (names : List (List ℕ)) (made : MadeWords) : Type 0 where

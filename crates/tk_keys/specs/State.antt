@@ -10,8 +10,8 @@ use Rattle.tk_keys.specs.Environment.{Env, Situation, first_env}
 use Rattle.tk_keys.specs.Given.{Given, known_words}
 use Rattle.tk_keys.specs.Settings.{Standing, Ending, Set, standing, set_behind}
 
--- what was given for a run, what words and keys mean at each open level, where and how is drawn at the last level and at
--- those further out, the nearest first, how many key lists run, and the units paid so far
+-- what was given for a run, what words and keys mean at each open level, where and how what follows is drawn, the same
+-- at the levels further out, the nearest first, how many key lists run, and the units paid so far
 pub record State : Type 0 where
   pub names : List (List ℕ)
   pub font : FontUnits

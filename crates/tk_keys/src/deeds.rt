@@ -124,7 +124,7 @@ impl State {
         expand_all(self.alloc, list, &self.store, &mut self.units)
     }
 
-    /// A native key sets where and how is drawn.
+    /// A native key sets where and how what follows is drawn.
     fn set_graphics(
         &mut self,
         at: u32,
@@ -147,7 +147,8 @@ impl State {
         )
     }
 
-    /// A native key, with the name by which it was asked: its value is expanded, and then it sets where and how is drawn.
+    /// A native key, with the name by which it was asked: its value is expanded, and then it sets where and how what
+    /// follows is drawn.
     fn set_native(
         &mut self,
         at: u32,
@@ -164,6 +165,10 @@ impl State {
             self.set_graphics(at, name, key, None)?;
             return Ok(done());
         };
+        if is_expanded(list, &self.store) {
+            self.set_graphics(at, name, key, Some(list))?;
+            return Ok(done());
+        }
         let list = self.expanded_list(at, list)?;
         self.set_graphics(at, name, key, Some(&list))?;
         Ok(done())
@@ -277,6 +282,10 @@ impl State {
         let Some(entry) = self.store.get_key(path) else {
             return Ok(None);
         };
+        if let (Some(Run::Native(key)), Need::Free) = (&entry.run, &entry.need) {
+            let key = *key;
+            return Ok(Some(self.set_native(at, name_in(path), key, value)?));
+        }
         let Some(run) = &entry.run else {
             let entry = entry.copy()?;
             return self.store_value(at, path, entry, value);
@@ -288,7 +297,7 @@ impl State {
     }
 }
 
-/// A native key sets where and how is drawn, where expressions have the values of the machine.
+/// A native key sets where and how what follows is drawn, where expressions have the values of the machine.
 fn graphics_set(
     graphics: &mut GraphicsState,
     alloc: Global,

@@ -12,7 +12,7 @@ ghost use Rattle.tk_keys.specs.Views.{deed_of, effect_of, runner_of};
 
 use crate::deeds::{Deed, done};
 use crate::{Dir, State};
-use std::alloc::{AllocError, Global};
+use std::alloc::AllocError;
 use tk_keytext::{Handler, Part, edit_entry, handler_of, name_in, parent_of, path_below};
 use tk_store::{Entry, Run};
 use tk_token::{Code, Fault, Refusal, Tok};
@@ -182,19 +182,19 @@ impl State {
         ensures used { OnOk result (self.old.units ≤ self.new.units) }
     {
         let name = self.expanded_name(Code::UnknownKey, part.at, part.name)?;
-        let path = path_from(self.alloc, dir, name)?;
+        let path = path_from(dir, name)?;
         let deed = self.key(part.at, &path, part.value, dir)?;
         self.keep(path);
         Ok(deed)
     }
 }
 
-/// The full path of a name with a default path; a name that is a full path takes no memory.
-pub(crate) fn path_from(alloc: Global, dir: &Dir, name: String) -> Result<String, AllocError>
+/// The full path of a name with a default path, in the memory of the name.
+pub(crate) fn path_from(dir: &Dir, name: String) -> Result<String, AllocError>
     ensures { IfOk result (λ path. string_bytes path ≡ paths.full_path dir.now (string_bytes name)) }
 {
     if name.starts_with('/') {
         return Ok(name);
     }
-    path_below(alloc, dir.as_str(), &name)
+    dir.below(name)
 }

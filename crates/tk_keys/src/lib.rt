@@ -6,12 +6,11 @@ mod dir;
 mod initial;
 mod keys;
 mod laws;
+mod painting;
 mod runs;
 mod setting;
 mod settings;
 mod state;
-#[cfg(test)]
-mod tests;
 
 pub use dir::Dir;
 pub use laws::{a_run_is_its_step, a_run_is_never_stuck};

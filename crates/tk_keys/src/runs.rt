@@ -21,7 +21,7 @@ use tk_store::Body;
 use tk_token::{Code, Refusal, Tok, end_of};
 
 /// How many key lists can run inside one another.
-const MOST_LISTS: usize = 256;
+pub(crate) const MOST_LISTS: usize = 256;
 
 impl State {
     /// Runs a key list with a default path, whose command stands at `at`; gives the default path that it ends with.
@@ -202,10 +202,12 @@ impl State {
     {
         let list = input.argument(at)?;
         match origin {
-            Origin::Here => self.run_keys(dir, &list, at),
-            Origin::Root => self.run_keys(&mut Dir::root(self.alloc), &list, at),
-            Origin::Tikz => self.run_keys(&mut Dir::new(self.alloc, "/tikz")?, &list, at),
+            Origin::Here => self.run_keys(dir, &list, at)?,
+            Origin::Root => self.run_keys(&mut Dir::root(self.alloc), &list, at)?,
+            Origin::Tikz => self.run_keys(&mut Dir::new(self.alloc, "/tikz")?, &list, at)?,
         }
+        input.keep(list);
+        Ok(())
     }
 
     /// Runs a group, whose `{` was taken: only the units come back from it.

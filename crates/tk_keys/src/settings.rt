@@ -66,7 +66,7 @@ impl State {
     {
         let text = input.argument(at)?;
         let name = self.expanded_name(Code::UnknownKey, at, &text)?;
-        Ok(path_from(self.alloc, dir, name)?)
+        Ok(path_from(dir, name)?)
     }
 
     /// `\pgfkeyssetvalue`: a value is stored.

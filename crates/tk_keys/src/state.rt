@@ -28,7 +28,8 @@ use tk_token::{Code, Fault, Names, Refusal, Tok};
 /// How many levels can be open.
 const MOST_LEVELS: usize = 128;
 
-/// The state of a run: what was given for it, what words and keys mean at each open level, and the units that were paid so far.
+/// The state of a run: what was given for it, what words and keys mean at each open level, where and how what follows
+/// is drawn there, and the units that were paid so far.
 #[derive(Drop)]
 pub struct State {
     pub(crate) alloc: Global,
@@ -37,7 +38,7 @@ pub struct State {
     pub(crate) made: MadeWords,
     pub(crate) font: FontUnits,
     pub(crate) store: Store,
-    /// Where and how is drawn.
+    /// Where and how what follows is drawn.
     pub(crate) graphics: GraphicsState,
     /// The same at the levels further out, the outermost first. It has room for each level that can be open.
     saved: Vec<GraphicsState>,
@@ -63,8 +64,7 @@ impl Model for State {
     ghost use Rattle.std.specs.Coded.{codes};
     ghost use Rattle.std.specs.FinMap as map;
     ghost use Rattle.tk_keys.specs.State.{State};
-    ghost use Rattle.std.specs.Prelude.{◌≡◌, ◌≤◌, length};
-    ghost use Rattle.std.specs.Prelude.{reverse};
+    ghost use Rattle.std.specs.Prelude.{◌≡◌, ◌≤◌, length, reverse};
     ghost use Rattle.std.specs.Vec.{vec_capacity};
     ghost use Rattle.tk_keys.specs.Made.{AreMade};
 
@@ -155,6 +155,24 @@ impl State {
         self.units.used
     }
 
+    /// The units that were paid, and how many there are to pay. This takes no memory.
+    pub fn units(&self) -> Units
+        ensures used { result.used ≡ self.now.units }
+        ensures budget { result.budget ≡ self.now.budget }
+    {
+        Units {
+            used: self.units.used,
+            budget: self.units.budget,
+        }
+    }
+
+    /// Says how many units were paid. This takes no memory.
+    pub fn set_used(&mut self, used: u64)
+        ensures { self.new ≡ record self.old { units = used } }
+    {
+        self.units.used = used;
+    }
+
     /// Takes the next token of a list, once no macro call is in front.
     pub fn next(&mut self, input: &mut Input) -> Result<Option<Tok>, Refusal>
         ensures gives { Gives (λ tok. taken tok (stream_of self.new input.new)) result
@@ -234,9 +252,9 @@ impl State {
             });
         }
         self.store.open();
-        let below = self.graphics.below();
-        self.saved
-            .push_reserved(mem::replace(&mut self.graphics, below));
+        let mut saved = self.graphics.below();
+        saved.look.name = mem::replace(&mut self.graphics.look.name, None);
+        self.saved.push_reserved(saved);
         Ok(())
     }
 
@@ -279,7 +297,7 @@ impl State {
         self.graphics.look.fill_on = fill;
     }
 
-    /// Where and how is drawn. This takes no memory.
+    /// Where and how what follows is drawn. This takes no memory.
     pub fn graphics(&self) -> &GraphicsState
         ensures { result.now ≡ self.now.graphics }
     {

@@ -6,8 +6,6 @@ mod handlers;
 mod laws;
 mod lists;
 mod paths;
-#[cfg(test)]
-mod tests;
 
 pub use entries::{edit_entry, no_entry};
 pub use handlers::handler_of;

@@ -36,10 +36,10 @@ use Rattle.tk_expr.specs.Pairs.{paired}
 use Rattle.tk_expr.proofs.Places.{paired_by_at, vector_at}
 use Rattle.tk_look.specs.declared.GraphicsState.{GraphicsState}
 use Rattle.tk_look.specs.declared.Look.{Look}
-use Rattle.tk_look.specs.Applied.{paint_by, paint, with_name, shaped_or_unknown, coloured_or_shaped, by_own_name, shift_by, turn_around, matrix_step, side_length, position_value, set_look, transformed, applied}
+use Rattle.tk_look.specs.Applied.{paint_by, paint, with_name, shaped_or_unknown, coloured_or_shaped, by_own_name, shift_by, turn_around, matrix_step, side_length, position_value, set_look, transformed, native_applied}
 use Rattle.tk_look.specs.Colours.{colour_of}
-use Rattle.tk_look.specs.Dashes.{Dash, up_to_word, behind_word, dash_of, dashes_of, dash_length, dash_lengths, pattern_value}
-use Rattle.tk_look.specs.Graphics.{matrix_at, graphics_by}
+use Rattle.tk_look.specs.Dashes.{Dash, up_to_word, behind_word, dash_of, all_dashes, dash_length, dash_lengths, pattern_value}
+use Rattle.tk_look.specs.Graphics.{matrix_or_fault, graphics_by}
 use Rattle.tk_look.specs.Values.{found_in, colour_in, before_closing, between_parentheses, value_there, word_value, colour_value, at_least, is_misfit, as_anchor, measure_value, number_value, number_from, anchor_by, anchor_value, vector_value}
 use Rattle.tk_look.specs.Words.{caps, joins, shapes, anchors}
 
@@ -138,15 +138,15 @@ module _ (P : ℕ → Type 0) where
       then_some CutWithin DashWithin (behind_word (codes "off") on.rest) _ (word_within (codes "off") on.rest k.1) (λ off m.
       record { on = k.0; off = m.0; rest = m.1 }))
 
-  dashes_within : (n : ℕ) (ts : List Tok) → Within ts → IfSome (dashes_of n ts) (AllByRecursion DashWithin)
-  unfolding dashes_of
+  dashes_within : (n : ℕ) (ts : List Tok) → Within ts → IfSome (all_dashes n ts) (AllByRecursion DashWithin)
+  unfolding all_dashes
   dashes_within zero ts h = tt
   dashes_within (suc n) ts h =
       then_some DashWithin (AllByRecursion DashWithin) (dash_of ts) _ (dash_within ts h) (λ d k. by d k (dashes_within n d.rest k.rest) (length d.rest == 0))
     where
-      by : (d : Dash) → DashWithin d → IfSome (dashes_of n d.rest) (AllByRecursion DashWithin) → (b : Bool) → IfSome (if b then Some (d ∷ []) else (dashes_of n d.rest and_then λ ds. Some (d ∷ ds))) (AllByRecursion DashWithin)
+      by : (d : Dash) → DashWithin d → IfSome (all_dashes n d.rest) (AllByRecursion DashWithin) → (b : Bool) → IfSome (if b then Some (d ∷ []) else (all_dashes n d.rest and_then λ ds. Some (d ∷ ds))) (AllByRecursion DashWithin)
       by d k more true = (k, tt)
-      by d k more false = then_some (AllByRecursion DashWithin) (AllByRecursion DashWithin) (dashes_of n d.rest) _ more (λ ds m. (k, m))
+      by d k more false = then_some (AllByRecursion DashWithin) (AllByRecursion DashWithin) (all_dashes n d.rest) _ more (λ ds m. (k, m))
 
   -- ---- by the place of a key
 
@@ -192,7 +192,7 @@ module _ (P : ℕ → Type 0) where
     own_name_fine name None look = coloured_fine (colour_of name) name look
     own_name_fine name (Some list) look = here
 
-    matrix_fine : (r : Result Matrix AffFault) → Fine (matrix_at at r)
+    matrix_fine : (r : Result Matrix AffFault) → Fine (matrix_or_fault at r)
     matrix_fine (Ok m) = tt
     matrix_fine (Err e) = here
 
@@ -245,7 +245,7 @@ module _ (P : ℕ → Type 0) where
 
       pattern_fine : (value : Option (List Tok)) → IfSome value Within → Fine (pattern_value at ev font value)
       pattern_fine value h = there value _ h (λ list k.
-          or_then (AllByRecursion DashWithin) (dashes_of 8 (after_spaces list)) codes_of.Domain _ (dashes_within 8 (after_spaces list) (behind_spaces list k)) (λ ds m. lengths_fine ds m))
+          or_then (AllByRecursion DashWithin) (all_dashes 8 (after_spaces list)) codes_of.Domain _ (dashes_within 8 (after_spaces list) (behind_spaces list k)) (λ ds m. lengths_fine ds m))
 
       position_fine : (value : Option (List Tok)) → IfSome value Within → Fine (position_value at ev font value)
       position_fine value h = fine_then (number_value at ev font value) _ (number_fine value h) (λ t. fine_if (nat_le (unsigned_abs t) 524288) _ _ tt here)
@@ -301,12 +301,12 @@ module _ (P : ℕ → Type 0) where
       transformed_fine RotateAround value look h = there value _ h (λ list k. fine_then (turn_around at ev font list look) _ (turn_fine list look k) (λ turn. tt))
       transformed_fine Cm value look h = there value _ h (λ list k. fine_then (matrix_step at ev font list look) _ (step_fine list look k) (λ step. tt))
 
-      applied_fine : (key : Native) (name : List ℕ) (value : Option (List Tok)) (look : Look) → IfSome value Within → Fine (applied at ev font key name value look)
+      applied_fine : (key : Native) (name : List ℕ) (value : Option (List Tok)) (look : Look) → IfSome value Within → Fine (native_applied at ev font key name value look)
       applied_fine (natives.Look key) name value look h = fine_then (set_look at ev font key name value look) _ (set_fine key name value look h) (λ new. tt)
       applied_fine (natives.Transform key) name value look h = transformed_fine key value look h
 
       pub graphics_fine : (key : Native) (name : List ℕ) (value : Option (List Tok)) (g : GraphicsState) → IfSome value Within → Fine (graphics_by at ev font key name value g)
       unfolding graphics_by
       graphics_fine key name value g h =
-          fine_then (applied at ev font key name value g.look) _ (applied_fine key name value g.look h) (λ new.
-          fine_then (matrix_at at (with_steps g.matrix new.steps)) _ (matrix_fine (with_steps g.matrix new.steps)) (λ matrix. tt))
+          fine_then (native_applied at ev font key name value g.look) _ (applied_fine key name value g.look h) (λ new.
+          fine_then (matrix_or_fault at (with_steps g.matrix new.steps)) _ (matrix_fine (with_steps g.matrix new.steps)) (λ matrix. tt))

@@ -308,8 +308,8 @@ module _ (at : ℕ) where
       Ok (stepping look (step ∷ []))
 
     -- What a key that is there from the beginning makes of its value and of a look.
-    abbrev pub applied : Native → List ℕ → Option (List Tok) → Look → Answer Applied
-    applied (natives.Look key) name value look = do
+    abbrev pub native_applied : Native → List ℕ → Option (List Tok) → Look → Answer Applied
+    native_applied (natives.Look key) name value look = do
       new ← set_look key name value look
       Ok (looking new)
-    applied (natives.Transform key) name value look = transformed key value look
+    native_applied (natives.Transform key) name value look = transformed key value look

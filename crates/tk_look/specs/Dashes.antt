@@ -33,10 +33,10 @@ dash_of ts =
     Some (record { on = on.front; off = off.front; rest = off.rest })
 
 -- dashes one after another up to the end: at least one, and at most so many
-unfoldable pub dashes_of : ℕ → List Tok → Option (List Dash)
-dashes_of zero ts = None
-dashes_of (suc n) ts = dash_of ts and_then λ d.
-    if length d.rest == 0 then Some (d ∷ []) else (dashes_of n d.rest and_then λ ds. Some (d ∷ ds))
+unfoldable pub all_dashes : ℕ → List Tok → Option (List Dash)
+all_dashes zero ts = None
+all_dashes (suc n) ts = dash_of ts and_then λ d.
+    if length d.rest == 0 then Some (d ∷ []) else (all_dashes n d.rest and_then λ ds. Some (d ∷ ds))
 
 module _ (at : ℕ) (ev : Evaluation) (font : FontUnits) where
   -- a length that isn't negative
@@ -57,7 +57,7 @@ module _ (at : ℕ) (ev : Evaluation) (font : FontUnits) where
   -- the lengths of a pattern of at most eight dashes, which begins with a word; its words are asked before any length is read
   abbrev pub pattern_lengths : List Tok → Answer (List ℤ)
   pattern_lengths list = do
-    ds ← or_fault (dashes_of 8 list) Domain at
+    ds ← or_fault (all_dashes 8 list) Domain at
     dash_lengths ds
 
   -- a value that is a pattern, with Spaces before it

@@ -12,7 +12,7 @@ use Rattle.tk_affine.specs.Steps.{unmoved, with_steps}
 use Rattle.tk_expr.specs.declared.FontUnits.{FontUnits}
 use Rattle.tk_expr.specs.Evaluates.{Evaluation}
 use Rattle.tk_look.specs.declared.GraphicsState.{GraphicsState}
-use Rattle.tk_look.specs.Applied.{applied}
+use Rattle.tk_look.specs.Applied.{native_applied}
 use Rattle.tk_look.specs.Looks.{initial_look, look_below}
 
 -- nothing is moved, and the look is the one in which nothing was set
@@ -29,14 +29,14 @@ matrix_code faults.TooLarge = codes.TooLarge
 matrix_code faults.Singular = codes.Singular
 
 -- a matrix, or its fault at a place
-abbrev pub matrix_at : ℕ → Result Matrix AffFault → Answer Matrix
-matrix_at at (Ok m) = Ok m
-matrix_at at (Err e) = fault (matrix_code e) at
+abbrev pub matrix_or_fault : ℕ → Result Matrix AffFault → Answer Matrix
+matrix_or_fault at (Ok m) = Ok m
+matrix_or_fault at (Err e) = fault (matrix_code e) at
 
 -- What a native key makes of its value and of what was set so far: its steps come behind those of the matrix, one after
 -- another.
 unfoldable pub graphics_by : ℕ → Evaluation → FontUnits → Native → List ℕ → Option (List Tok) → GraphicsState → Answer GraphicsState
 graphics_by at ev font key name value g = do
-  new ← applied at ev font key name value g.look
-  matrix ← matrix_at at (with_steps g.matrix new.steps)
+  new ← native_applied at ev font key name value g.look
+  matrix ← matrix_or_fault at (with_steps g.matrix new.steps)
   Ok (record { matrix = matrix; look = new.look })

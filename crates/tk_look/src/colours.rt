@@ -1,7 +1,6 @@
 //! Colours by their texts.
 
-ghost use Rattle.std.specs.Prelude.{◌≡◌, ◌≤◌, IfSome, MatchOption, None};
-ghost use Rattle.std.specs.Prelude.{◌∷◌, ◌<◌, length, option_copied};
+ghost use Rattle.std.specs.Prelude.{◌≡◌, ◌≤◌, ◌<◌, ◌∷◌, length, option_copied, IfSome, MatchOption, None};
 ghost use Rattle.tk_look.specs.Colours as spec;
 ghost use Rattle.tk_look.specs.Pieces.{pieces_behind};
 

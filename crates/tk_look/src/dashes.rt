@@ -10,7 +10,7 @@ use crate::values::evaluate;
 use tk_expr::FontUnits;
 use tk_item::Dashes;
 use tk_num::Scaled;
-use tk_token::{Code, Fault, Sought, Tok, after_spaces, first_outside};
+use tk_token::{Code, Fault, Sought, Tok, after_spaces, begins_pair, begins_three, first_outside};
 
 /// How many dashes a pattern has at most.
 const MOST_DASHES: usize = 8;
@@ -37,27 +37,20 @@ fn up_to_word(list: &[Tok]) -> (&[Tok], &[Tok])
 fn behind_on(list: &[Tok]) -> Option<(&[Tok], &[Tok])>
     ensures { option_map (λ found. cut found.0.now found.1.now) result ≡ spec.behind_word (codes "on") list.now }
 {
-    let (first, rest) = list.split_first()?;
-    let (second, rest) = rest.split_first()?;
-    if first.kind.is_char('o') && second.kind.is_char('n') {
-        Some(up_to_word(rest))
-    } else {
-        None
+    if !begins_pair(list, 'o', 'n') {
+        return None;
     }
+    Some(up_to_word(list.get(2..)?))
 }
 
 /// The same behind an `off`.
 fn behind_off(list: &[Tok]) -> Option<(&[Tok], &[Tok])>
     ensures { option_map (λ found. cut found.0.now found.1.now) result ≡ spec.behind_word (codes "off") list.now }
 {
-    let (first, rest) = list.split_first()?;
-    let (second, rest) = rest.split_first()?;
-    let (third, rest) = rest.split_first()?;
-    if first.kind.is_char('o') && second.kind.is_char('f') && third.kind.is_char('f') {
-        Some(up_to_word(rest))
-    } else {
-        None
+    if !begins_three(list, 'o', 'f', 'f') {
+        return None;
     }
+    Some(up_to_word(list.get(3..)?))
 }
 
 /// The first dash of a pattern.
@@ -72,7 +65,7 @@ fn first_dash(list: &[Tok]) -> Option<Dash<'_>>
 
 /// Whether dashes stand one after another up to the end, at least one and at most eight.
 fn are_dashes(list: &[Tok]) -> bool
-    ensures { result ≡ is_some (spec.dashes_of 8 list.now) }
+    ensures { result ≡ is_some (spec.all_dashes 8 list.now) }
 {
     let mut rest = list;
     for _ in 0..MOST_DASHES {
@@ -101,7 +94,7 @@ fn dash_length(list: &[Tok], font: FontUnits, at: u32) -> Result<Scaled, Fault>
 
 /// The lengths of dashes that stand one after another up to the end.
 fn dash_lengths(list: &[Tok], font: FontUnits, at: u32) -> Result<Dashes, Fault>
-    requires { is_some (spec.dashes_of 8 list.now) ≡ true }
+    requires { is_some (spec.all_dashes 8 list.now) ≡ true }
     ensures { result ≡ spec.pattern_lengths at evaluated font list.now }
 {
     let mut dashes = Dashes::new();

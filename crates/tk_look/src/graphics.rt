@@ -99,7 +99,7 @@ fn with_steps(matrix: Matrix, steps: &Steps) -> Result<Matrix, AffFault>
 
 /// The same with a fault at a place.
 fn moved(matrix: Matrix, steps: &Steps, at: u32) -> Result<Matrix, Fault>
-    ensures { result ≡ spec.matrix_at at (with_steps matrix steps.now.items) }
+    ensures { result ≡ spec.matrix_or_fault at (with_steps matrix steps.now.items) }
 {
     match with_steps(matrix, steps) {
         Ok(moved) => Ok(moved),

@@ -67,37 +67,8 @@ impl Look {
     {
         Look {
             name: None,
-            draw_on: self.draw_on,
-            fill_on: self.fill_on,
-            draw: self.draw,
-            fill: self.fill,
-            text: self.text,
-            line_width: self.line_width,
-            line_cap: self.line_cap,
-            line_join: self.line_join,
-            miter_limit: self.miter_limit,
             dash_pattern: self.dash_pattern.copy(),
-            dash_phase: self.dash_phase,
-            fill_rule: self.fill_rule,
-            x: self.x,
-            y: self.y,
-            x_radius: self.x_radius,
-            y_radius: self.y_radius,
-            start_angle: self.start_angle,
-            end_angle: self.end_angle,
-            delta_angle: self.delta_angle,
-            xstep: self.xstep,
-            ystep: self.ystep,
-            shape: self.shape,
-            inner_xsep: self.inner_xsep,
-            inner_ysep: self.inner_ysep,
-            outer_xsep: self.outer_xsep,
-            outer_ysep: self.outer_ysep,
-            minimum_width: self.minimum_width,
-            minimum_height: self.minimum_height,
-            anchor: self.anchor,
-            pos: self.pos,
-            sloped: self.sloped,
+            ..*self
         }
     }
 }

@@ -317,7 +317,7 @@ impl Look {
         at: u32,
     ) -> Result<Steps, Refusal>
         ensures { Gives (λ steps. spec.stepping self.new steps.items) result
-            (spec.applied at evaluated font key name.now (option_copied value.entry) self.old) }
+            (spec.native_applied at evaluated font key name.now (option_copied value.entry) self.old) }
     {
         match key {
             Native::Look(key) => {
@@ -349,7 +349,7 @@ pub fn apply(
     at: u32,
 ) -> Result<ArrayVec<Step, 3>, Refusal>
     ensures { (ev : Evaluation) → IsEvaluation ev → Gives (λ steps. spec.stepping look.new steps.items) result
-        (spec.applied at ev font key name.now (option_copied value.entry) look.old) }
+        (spec.native_applied at ev font key name.now (option_copied value.entry) look.old) }
 {
     look.apply(alloc, key, name, value, font, at)
 }

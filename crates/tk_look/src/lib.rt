@@ -10,8 +10,6 @@ mod keys;
 mod lengths;
 mod names;
 mod steps;
-#[cfg(test)]
-mod tests;
 mod values;
 mod words;
 

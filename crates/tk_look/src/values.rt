@@ -6,7 +6,7 @@ ghost use Rattle.tk_look.specs.Views.{text_there};
 ghost use Rattle.tk_expr.specs.Evaluated.{evaluated};
 ghost use Rattle.tk_expr.specs.Pairs.{paired};
 ghost use Rattle.tk_look.specs.Values as spec;
-ghost use Rattle.tk_look.specs.Applied as applied;
+ghost use Rattle.tk_look.specs.Applied as native;
 ghost use Rattle.tk_look.specs.Words.{caps, joins, shapes, anchors};
 
 use crate::colours::colour;
@@ -76,7 +76,7 @@ pub(crate) fn position_value(
     font: FontUnits,
     at: u32,
 ) -> Result<Position, Fault>
-    ensures { result ≡ applied.position_value at evaluated font (option_copied value.entry) }
+    ensures { result ≡ native.position_value at evaluated font (option_copied value.entry) }
 {
     let place = number_value(value, font, at)?;
     Position::new(place).ok_or(Fault::new(Code::Domain, at))
@@ -84,14 +84,16 @@ pub(crate) fn position_value(
 
 // ---- words and colours
 
-/// The text of a value that has to be there, if it is of characters and Spaces alone.
-fn text_value(alloc: Global, value: Option<&[Tok]>, at: u32) -> Result<Option<String>, Refusal>
-    ensures { Gives (λ text. option_map string_bytes text) result
-        (text_there at (option_copied value.entry)) }
+/// The text of a value that has to be there; a fault where it isn't of characters and Spaces alone.
+fn text_value(alloc: Global, value: Option<&[Tok]>, code: Code, at: u32) -> Result<String, Refusal>
+    ensures { Gives (λ text. string_bytes text) result (text_there code at (option_copied value.entry)) }
 {
-    match value {
-        Some(list) => Ok(text_in(alloc, list)?),
-        None => Err(Refusal::new(Code::ValueRequired, at)),
+    let Some(list) = value else {
+        return Err(Refusal::new(Code::ValueRequired, at));
+    };
+    match text_in(alloc, list)? {
+        Some(text) => Ok(text),
+        None => Err(Refusal::new(code, at)),
     }
 }
 
@@ -99,52 +101,32 @@ fn text_value(alloc: Global, value: Option<&[Tok]>, at: u32) -> Result<Option<St
 pub(crate) fn cap_value(alloc: Global, value: Option<&[Tok]>, at: u32) -> Result<Cap, Refusal>
     ensures { Gives (λ cap. cap) result (spec.word_value at caps (option_copied value.entry)) }
 {
-    let Some(word) = text_value(alloc, value, at)? else {
-        return Err(Refusal::new(Code::UnknownChoice, at));
-    };
-    match cap_named(&word) {
-        Some(cap) => Ok(cap),
-        None => Err(Refusal::new(Code::UnknownChoice, at)),
-    }
+    let word = text_value(alloc, value, Code::UnknownChoice, at)?;
+    cap_named(&word).ok_or(Refusal::new(Code::UnknownChoice, at))
 }
 
 /// The corner of lines.
 pub(crate) fn join_value(alloc: Global, value: Option<&[Tok]>, at: u32) -> Result<Join, Refusal>
     ensures { Gives (λ join. join) result (spec.word_value at joins (option_copied value.entry)) }
 {
-    let Some(word) = text_value(alloc, value, at)? else {
-        return Err(Refusal::new(Code::UnknownChoice, at));
-    };
-    match join_named(&word) {
-        Some(join) => Ok(join),
-        None => Err(Refusal::new(Code::UnknownChoice, at)),
-    }
+    let word = text_value(alloc, value, Code::UnknownChoice, at)?;
+    join_named(&word).ok_or(Refusal::new(Code::UnknownChoice, at))
 }
 
 /// The shape of a node.
 pub(crate) fn shape_value(alloc: Global, value: Option<&[Tok]>, at: u32) -> Result<Shape, Refusal>
     ensures { Gives (λ shape. shape) result (spec.word_value at shapes (option_copied value.entry)) }
 {
-    let Some(word) = text_value(alloc, value, at)? else {
-        return Err(Refusal::new(Code::UnknownChoice, at));
-    };
-    match shape_named(&word) {
-        Some(shape) => Ok(shape),
-        None => Err(Refusal::new(Code::UnknownChoice, at)),
-    }
+    let word = text_value(alloc, value, Code::UnknownChoice, at)?;
+    shape_named(&word).ok_or(Refusal::new(Code::UnknownChoice, at))
 }
 
 /// A colour.
 pub(crate) fn colour_value(alloc: Global, value: Option<&[Tok]>, at: u32) -> Result<Rgb, Refusal>
     ensures { Gives (λ c. c) result (spec.colour_value at (option_copied value.entry)) }
 {
-    let Some(text) = text_value(alloc, value, at)? else {
-        return Err(Refusal::new(Code::Colour, at));
-    };
-    match colour(&text) {
-        Some(rgb) => Ok(rgb),
-        None => Err(Refusal::new(Code::Colour, at)),
-    }
+    let text = text_value(alloc, value, Code::Colour, at)?;
+    colour(&text).ok_or(Refusal::new(Code::Colour, at))
 }
 
 // ---- anchors and pairs

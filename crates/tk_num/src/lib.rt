@@ -8,8 +8,6 @@ ghost use Rattle.tk_num.specs.Number.{IsScaled};
 mod angle;
 mod arithmetic;
 mod decimal;
-#[cfg(test)]
-mod tests;
 mod text;
 mod unit;
 

@@ -8,8 +8,6 @@ mod body;
 mod steps;
 mod store;
 mod tables;
-#[cfg(test)]
-mod tests;
 
 pub use body::{Body, digit_of};
 use std::alloc::AllocError;

@@ -15,8 +15,6 @@ ghost use Rattle.tk_svgwrite.specs.Plain.{document_text};
 mod attributes;
 mod elements;
 mod presentation;
-#[cfg(test)]
-mod tests;
 mod values;
 
 use elements::{put_item, put_svg};

@@ -1,6 +1,7 @@
 pub mod Answering
 pub mod Ascii
 pub mod Braces
+pub mod Corners
 pub mod Cuts
 pub mod Faulty
 pub mod Fixpoint

@@ -45,6 +45,10 @@ fn first_refused(text: &str) -> Option<usize>
 fn is_refused(character: char) -> bool
     ensures { result ≡ is_refused character }
 {
+    // Nearly every character is one of these.
+    if ' ' <= character && character <= '\u{fffd}' {
+        return false;
+    }
     matches!(character, '\0'..='\u{8}' | '\u{b}' | '\u{c}' | '\u{e}'..='\u{1f}' | '\u{fffe}' | '\u{ffff}')
 }
 

@@ -1,7 +1,8 @@
 //! What stands outside braces, one outer pair of braces, and the Spaces round tokens.
 
 ghost use Rattle.std.specs.Prelude.{◌≡◌, ◌==◌, ◌&&◌, ◌∷◌, [], ◌+◌, ◌^◌, ◌<◌, ◌≤◌, length, drop, option_map};
-ghost use Rattle.std.specs.List.{list_all};
+ghost use Rattle.std.specs.List.{list_all, list_any};
+ghost use Rattle.tk_characters.specs.Characters.{bar};
 ghost use Rattle.tk_token.specs.Groups as groups;
 ghost use Rattle.tk_token.specs.Groups.{cut};
 ghost use Rattle.tk_token.specs.Kinds as kinds;
@@ -43,7 +44,20 @@ impl Sought {
 /// The tokens before the first place outside braces at which what is sought is in front, and those from there on.
 ///
 /// There is no such place where the list ends before it, or a `}` stands before it that closes none of these tokens.
+#[tactic(auto, using(crate::proofs::Corners::no_corner))]
 pub fn first_outside(list: &[Tok], sought: Sought) -> Option<(&[Tok], &[Tok])>
+    ensures { option_map (λ found. cut found.0.now found.1.now) result ≡ groups.first_outside (begins_sought sought) list.now }
+{
+    match sought {
+        Sought::Char(wanted) => search(list, Sought::Char(wanted)),
+        Sought::Corner if !has_bar(list) => None,
+        _ => search(list, sought),
+    }
+}
+
+/// The same by a walk over the tokens, which is compiled for each thing that is known to be sought.
+#[inline(always)]
+fn search(list: &[Tok], sought: Sought) -> Option<(&[Tok], &[Tok])>
     ensures { option_map (λ found. cut found.0.now found.1.now) result ≡ groups.first_outside (begins_sought sought) list.now }
 {
     let mut depth = 0;
@@ -59,6 +73,13 @@ pub fn first_outside(list: &[Tok], sought: Sought) -> Option<(&[Tok], &[Tok])>
         rest = tail;
     }
     None
+}
+
+/// Whether a `|` is among the tokens, without which there is no corner.
+fn has_bar(list: &[Tok]) -> bool
+    ensures { result ≡ list_any (λ tok. kinds.is_char bar tok.kind) list.now }
+{
+    list.iter().any(|tok| tok.kind.is_char('|'))
 }
 
 /// The tokens before that character, at its first place outside braces, and those behind it: `a=b` is parted into `a` and

@@ -10,8 +10,6 @@ mod laws;
 mod lexer;
 mod names;
 mod positions;
-#[cfg(test)]
-mod tests;
 mod texts;
 
 pub use groups::{

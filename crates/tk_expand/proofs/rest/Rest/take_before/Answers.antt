@@ -19,6 +19,6 @@ pub returns-clause-gives : goal.returns-clause-gives
 returns-clause-gives c =
     let t = taken_there c.args.stop c.self.inside.list c.self.inside.from c.sought.result c.as_slice.result.now c.in-Some.front.now c.in-Some.rest.now c.self.invariant (c.as_slice.ensures ∙ sym c.self.view_is) c.sought.ensures c.in-Some.ensures in
     let n : (length c.as_slice-2.result.now - length c.in-Some.rest.now) + 1 ≡ (length c.self.inside.list - length c.in-Some.rest.now) + 1 = ap (λ (ts : List Tok). (length ts - length c.in-Some.rest.now) + 1) c.as_slice-2.ensures in
-    ap (λ (front : List Tok). (let o : Option Cut = Some (cut front (drop ((length c.as_slice-2.result.now - length c.in-Some.rest.now) + 1) c.self.inside.list)) in o)) c.in_ok-front.ensures.items
+    ap (λ (front : List Tok). (let o : Option Cut = Some (cut front (drop ((length c.as_slice-2.result.now - length c.in-Some.rest.now) + 1) c.self.inside.list)) in o)) c.in_ok-front.ensures
     ∙ ap (λ (k : ℕ). (let o : Option Cut = Some (cut c.in-Some.front.now (drop k c.self.inside.list)) in o)) n
     ∙ sym t.2 ∙ ap (before_stop c.args.stop) c.as_slice.ensures

@@ -2,7 +2,7 @@
 
 ghost use Rattle.std.specs.Prelude.{◌≤◌, ◌^◌, unsigned_abs};
 
-use crate::{
+use tk_affine::{
     AffFault, Matrix, Step, along, apply, apply_vector, concat, corner, identity, inverse_apply,
 };
 use tk_item::Point;

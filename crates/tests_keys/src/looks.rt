@@ -1,11 +1,11 @@
 //! What no clause says: that the calls succeed with ample memory, and values worked out by hand. A point is 65,536 scaled
 //! points, a centimetre 1,864,679, and the font has an em of 10pt and an ex of 4.3pt.
 
-use crate::{LineWidth, Look, MiterLimit, NodeName, Position, apply, colour};
 use std::alloc::{AllocError, Global};
 use std::process::Abort;
 use std::test::Fail;
 use tk_expr::FontUnits;
+use tk_look::{LineWidth, Look, MiterLimit, NodeName, Position, apply, colour};
 use tk_native::{LookKey, NATIVES, Native};
 use tk_num::Scaled;
 use tk_token::{Lexed, Refusal, Tok, lex};

@@ -1,9 +1,9 @@
 //! What no clause says: that the calls succeed with ample memory, and some values worked out by hand.
 
-use crate::{Input, Units, expand_all, is_expanded, is_there, paid_text};
 use std::alloc::Global;
 use std::process::Abort;
 use std::test::Fail;
+use tk_expand::{Input, Units, expand_all, is_expanded, is_there, paid_text};
 use tk_store::{Body, Macro, Store};
 use tk_token::{Code, Fault, Kind, Refusal, Tok};
 

@@ -1,12 +1,12 @@
 //! What no clause says: that the calls succeed with ample memory, and some values worked out by hand.
 
-use crate::{
+use std::alloc::{AllocError, Global};
+use std::test::Fail;
+use tk_token::{
     Code, Fault, Kind, Names, Refusal, Sought, Tok, after_spaces, begins_char, closes_nothing,
     depth_after, end_of, first_outside, lex, one_word, place, text_in, tokens_of, trimmed,
     unbraced,
 };
-use std::alloc::{AllocError, Global};
-use std::test::Fail;
 
 /// Sources with their tokens: a word as `\word|`, a symbol as `!` and its character, a gap as `_`.
 const CUTS: [(&str, &str); 40] = [

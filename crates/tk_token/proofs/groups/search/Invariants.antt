@@ -3,7 +3,7 @@ use Rattle.tk_token.specs.declared.Tok.{Tok}
 use Rattle.tk_token.specs.Groups.{first_outside, first_outside_in}
 use Rattle.tk_token.specs.Sought.{begins_sought}
 use Rattle.tk_token.proofs.Outside.{prefixed}
-use Rattle.tk_token.proofs.groups.first_outside.Given as goal
+use Rattle.tk_token.proofs.groups.search.Given as goal
 
 abbrev pub invariant-loop-first : goal.invariant-loop-first
 invariant-loop-first l = record {

@@ -1,10 +1,10 @@
 //! Expressions with their values, worked out by hand: one point is 65,536 scaled points, and the font has an em of 10pt and
 //! an ex of 4.3pt.
 
-use crate::{FontUnits, Value, ValuePair, eval, pair, vector};
 use std::alloc::{AllocError, Global};
 use std::process::Abort;
 use std::test::Fail;
+use tk_expr::{FontUnits, Value, ValuePair, eval, pair, vector};
 use tk_num::Scaled;
 use tk_token::{Code, Fault, Kind, Tok};
 

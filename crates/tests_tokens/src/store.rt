@@ -1,8 +1,8 @@
 //! What no clause says: that the calls succeed with ample memory, and some values worked out by hand.
 
-use crate::{Body, Entry, Macro, Need, Run, Store};
 use std::alloc::{AllocError, Global};
 use std::test::Fail;
+use tk_store::{Body, Entry, Macro, Need, Run, Store};
 use tk_token::{Code, Fault, Kind, Refusal, Tok};
 
 /// So many arguments, what is written between the braces, and the body, with the place of an argument as its digit in

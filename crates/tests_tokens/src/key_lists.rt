@@ -1,10 +1,10 @@
 //! What no clause says: that the calls succeed with ample memory, and some values worked out by hand.
 
-use crate::{
-    Handler, Part, edit_entry, full_path, handler_of, last_part, name_in, parent_of, split_list,
-};
 use std::alloc::{AllocError, Global};
 use std::test::Fail;
+use tk_keytext::{
+    Handler, Part, edit_entry, full_path, handler_of, last_part, name_in, parent_of, split_list,
+};
 use tk_native::{LookKey, Native};
 use tk_store::{Body, Entry, Need, Run};
 use tk_token::{Code, Fault, Kind, Refusal, Tok};

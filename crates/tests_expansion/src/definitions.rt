@@ -1,8 +1,8 @@
 //! Texts of definitions and calls, with what they show, cost or are refused for, worked out by hand.
 
-use crate::{Command, Definition, read_definition};
 use std::alloc::{AllocError, Global};
 use std::test::Fail;
+use tk_define::{Command, Definition, read_definition};
 use tk_expand::{Input, Units};
 use tk_store::{Body, Store};
 use tk_token::{Code, Fault, Kind, Lexed, Names, Refusal, Tok, lex};

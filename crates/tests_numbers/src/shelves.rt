@@ -1,11 +1,11 @@
 //! What no clause says: that the calls find memory, and what callers do with short answers.
 
-use crate::{
+use std::alloc::{AllocError, Global};
+use std::test::Fail;
+use tk_io::{
     ErrSink, Failed, FileShelf, MemFile, MemShelf, MemSink, OutSink, ReadRefusal, Shelf, Sink,
     SureShelf, SureSink, names_differ, read_all, write_all,
 };
-use std::alloc::{AllocError, Global};
-use std::test::Fail;
 
 fn file(alloc: Global, name: &str, bytes: &[u8]) -> Result<MemFile, AllocError> {
     Ok(MemFile {

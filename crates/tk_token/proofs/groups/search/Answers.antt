@@ -4,7 +4,7 @@ use Rattle.tk_token.specs.declared.Tok.{Tok}
 use Rattle.tk_token.specs.Groups.{first_outside}
 use Rattle.tk_token.specs.Sought.{begins_sought}
 use Rattle.tk_token.proofs.Outside.{prefixed_nothing, ends, tested, finds, closes, goes, front_of, rest_of}
-use Rattle.tk_token.proofs.groups.first_outside.Goals as goal
+use Rattle.tk_token.proofs.groups.search.Goals as goal
 
 pub loop-first-init : goal.loop-first-init
 loop-first-init c = record {

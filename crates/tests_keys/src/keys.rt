@@ -1,10 +1,10 @@
 //! What no clause says: that the calls succeed with ample memory, and some values worked out by hand.
 
-use crate::{Dir, State};
 use std::alloc::Global;
 use std::test::Fail;
 use tk_expand::Input;
 use tk_expr::FontUnits;
+use tk_keys::{Dir, State};
 use tk_num::Scaled;
 use tk_store::{Body, Macro};
 use tk_token::{Code, Fault, Kind, Lexed, Refusal, Tok, lex};

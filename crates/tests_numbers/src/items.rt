@@ -1,8 +1,8 @@
 ghost use Rattle.std.specs.Prelude.{pos, ◌≤ℤ◌};
 
-use crate::{Dashes, Frame, Item, Items, Point, Seg, Segs, Text, half_width, widen};
 use std::alloc::{AllocError, Global};
 use std::test::Fail;
+use tk_item::{Dashes, Frame, Item, Items, Point, Seg, Segs, Text, half_width, widen};
 use tk_num::Scaled;
 
 fn point(x: i64, y: i64) -> Option<Point> {

@@ -1,10 +1,10 @@
 //! Each call on a table of values that were worked out by hand.
 
-use crate::{
+use arrayvec::ArrayVec;
+use tk_num::{
     Digits, NumFault, Scaled, Unit, add, cos, div, mul, nearest_65536th, print, print_tex,
     push_text, read_decimal, root, sin, sub, tan, with_unit,
 };
-use arrayvec::ArrayVec;
 
 /// The count of an answer; None where an argument was out of range.
 fn count(answer: Option<Result<Scaled, NumFault>>) -> Option<Result<i64, NumFault>> {

@@ -1,0 +1,11 @@
+//! Tests of what no contract says: that each call succeeds with ample memory, and values worked out by hand.
+#![tactic(auto)]
+
+#[cfg(test)]
+mod items;
+#[cfg(test)]
+mod matrices;
+#[cfg(test)]
+mod numbers;
+#[cfg(test)]
+mod shelves;
