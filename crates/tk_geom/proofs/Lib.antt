@@ -1,0 +1,10 @@
+pub mod Wrapped
+pub mod Sums
+pub mod Quotients
+pub mod Turns
+pub mod Appending
+pub mod Round
+pub mod Tangents
+pub mod Multiples
+pub mod LinesDrawn
+pub mod Forms

@@ -1,0 +1,102 @@
+-- The whole numbers whose products with a step lie between two bounds.
+use Rattle.std.proofs.Common.{◌≡◌, ◌↔◌, ℕ, zero, suc, ◌*◌, ◌<◌, length, get_or, Contains, ℤ, pos, negsuc, neg_ℤ, ◌+ℤ◌, ◌-ℤ◌, ◌*ℤ◌, ◌≤ℤ◌, ◌<ℤ◌, unsigned_abs, refl, sym, ap, subst, ◌∙◌, arith}
+use Rattle.std.specs.Int.{int_div_euclid}
+use Rattle.std.proofs.lemmas.Int.{ints}
+use Rattle.std.proofs.Math.IntN.{neg_ℤ-neg_ℤ}
+use Rattle.std.proofs.Math.Nat.{le-div_iff_mul-le, div-lt_iff_lt-mul}
+use Rattle.tk_geom.specs.GridLines.{rising, ceiling_of, floor_of, count_between, multiples_between}
+
+-- ---- the quotients, for a step of n + 1
+
+some : (n : ℕ) → zero < suc n
+some n = omega arith
+
+under_floor : (z high : ℤ) (n : ℕ) → z ≤ℤ int_div_euclid high (pos (suc n)) → (z *ℤ pos (suc n)) ≤ℤ high
+under_floor (pos m) (pos a) n le = let k = (le-div_iff_mul-le {k = suc n} {x = m} {y = a} (some n)).0 (omega (arith, ints)) in omega (arith, ints, k)
+under_floor (pos m) (negsuc a) n le = absurd (omega (arith, ints))
+under_floor (negsuc m) (pos a) n le = omega (arith, ints)
+under_floor (negsuc m) (negsuc a) n le = let k = (div-lt_iff_lt-mul {k = suc n} {x = a} {y = suc m} (some n)).0 (omega (arith, ints)) in omega (arith, ints, k)
+
+floor_above : (z high : ℤ) (n : ℕ) → (z *ℤ pos (suc n)) ≤ℤ high → z ≤ℤ int_div_euclid high (pos (suc n))
+floor_above (pos m) (pos a) n le = let k = (le-div_iff_mul-le {k = suc n} {x = m} {y = a} (some n)).1 (omega (arith, ints)) in omega (arith, ints, k)
+floor_above (pos m) (negsuc a) n le = absurd (omega (arith, ints))
+floor_above (negsuc m) (pos a) n le = omega (arith, ints)
+floor_above (negsuc m) (negsuc a) n le = let k = (div-lt_iff_lt-mul {k = suc n} {x = a} {y = suc m} (some n)).1 (omega (arith, ints)) in omega (arith, ints, k)
+
+neg_times : (z : ℤ) (n : ℕ) → neg_ℤ z *ℤ pos n ≡ neg_ℤ (z *ℤ pos n)
+neg_times (pos zero) n = let e : zero * n ≡ zero = omega arith in rw e refl
+neg_times (pos (suc m)) n = refl
+neg_times (negsuc m) n = sym (neg_ℤ-neg_ℤ (pos (suc m * n)))
+
+over_ceiling : (z low : ℤ) (n : ℕ) → ceiling_of low (pos (suc n)) ≤ℤ z → low ≤ℤ (z *ℤ pos (suc n))
+over_ceiling z low n le =
+    let k = under_floor (neg_ℤ z) (neg_ℤ low) n (omega (arith, ints)) in
+    omega (arith, ints, k, neg_times z (suc n))
+
+ceiling_below : (z low : ℤ) (n : ℕ) → low ≤ℤ (z *ℤ pos (suc n)) → ceiling_of low (pos (suc n)) ≤ℤ z
+ceiling_below z low n le =
+    let k = floor_above (neg_ℤ z) (neg_ℤ low) n (omega (arith, ints, neg_times z (suc n))) in
+    omega (arith, ints, k)
+
+-- ---- numbers that rise
+
+length-rising : (k : ℤ) (n : ℕ) → length (rising k n) ≡ n
+length-rising k zero = refl
+length-rising k (suc n) = ap suc (length-rising (k +ℤ pos 1) n)
+
+get_or-rising : (k : ℤ) (n i : ℕ) (d : ℤ) → i < n → get_or (rising k n) i d ≡ k +ℤ pos i
+get_or-rising k zero i d lt = absurd (omega arith)
+get_or-rising k (suc n) zero d lt = omega (arith, ints)
+get_or-rising k (suc n) (suc i) d lt = let e = get_or-rising (k +ℤ pos 1) n i d (omega arith) in omega (arith, ints, e)
+
+count_fits : (a b : ℤ) (i : ℕ) → i < count_between a b → (a +ℤ pos i) ≤ℤ b
+count_fits a b i lt = grind (arith, ints)
+
+count_reaches : (a b k : ℤ) → a ≤ℤ k → k ≤ℤ b → unsigned_abs (k -ℤ a) < count_between a b
+count_reaches a b k low high = grind (arith, ints)
+
+back_from : (a k : ℤ) → a ≤ℤ k → a +ℤ pos (unsigned_abs (k -ℤ a)) ≡ k
+back_from a k le = omega (arith, ints)
+
+-- ---- the two together
+
+among_rising : (first last k : ℤ) → Contains (rising first (count_between first last)) k ↔ ((first ≤ℤ k) × (k ≤ℤ last))
+among_rising first last k = (
+  λ found.
+      let lt : found.0 < count_between first last = subst (λ n. found.0 < n) (length-rising first (count_between first last)) found.1 in
+      let e : first +ℤ pos found.0 ≡ k = sym (get_or-rising first (count_between first last) found.0 k lt) ∙ found.2 in
+      let most = count_fits first last found.0 lt in
+      (omega (arith, ints, e), omega (arith, ints, e, most)),
+  λ within.
+      let i : ℕ = unsigned_abs (k -ℤ first) in
+      let lt = count_reaches first last k within.0 within.1 in (
+        i,
+        subst (λ n. i < n) (sym (length-rising first (count_between first last))) lt,
+        get_or-rising first (count_between first last) i k lt ∙ back_from
+            first k within.0,
+      ),
+)
+
+among_of : (low high k : ℤ) (n : ℕ) → Contains (multiples_between low high (pos (suc n))) k ↔ ((low ≤ℤ (k *ℤ pos (suc n))) × ((k *ℤ pos (suc n)) ≤ℤ high))
+unfolding multiples_between
+among_of low high k n =
+    let among = among_rising (ceiling_of low (pos (suc n))) (floor_of high (pos (suc n))) k in (
+      λ found. let within = among.0 found in (over_ceiling k low n within.0, under_floor k high n within.1),
+      λ within. among.1 (ceiling_below k low n within.0, floor_above k high n within.1),
+    )
+
+pub among : (low high s k : ℤ) → pos 0 <ℤ s → Contains (multiples_between low high s) k ↔ ((low ≤ℤ (k *ℤ s)) × ((k *ℤ s) ≤ℤ high))
+among low high (pos zero) k lt = absurd (omega (arith, ints))
+among low high (pos (suc n)) k lt = among_of low high k n
+among low high (negsuc n) k lt = absurd (omega (arith, ints))
+
+rises_from : (k : ℤ) (n i j : ℕ) (d : ℤ) → i < j → j < n → get_or (rising k n) i d <ℤ get_or (rising k n) j d
+rises_from k n i j d lt within =
+    rw (get_or-rising k n i d (omega arith), get_or-rising k n j d within) (omega (arith, ints))
+
+pub rises : (low high s : ℤ) (i j : ℕ) (d : ℤ) → i < j → j < length (multiples_between low high s)
+    → get_or (multiples_between low high s) i d <ℤ get_or (multiples_between low high s) j d
+unfolding multiples_between
+rises low high s i j d lt within =
+    let n : ℕ = count_between (ceiling_of low s) (floor_of high s) in
+    rises_from (ceiling_of low s) n i j d lt (subst (λ m. j < m) (length-rising (ceiling_of low s) n) within)

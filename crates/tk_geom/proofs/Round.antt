@@ -1,0 +1,25 @@
+-- The pieces of an arc, by how many there are and where its centre is.
+use Rattle.std.proofs.Common.{◌≡◌, ◌≢◌, ℕ, false, eqb, [], Ok, Err, ℤ, refl, arith}
+use Rattle.std.proofs.lemmas.Bool.Decides.{nat_tests}
+use Rattle.tk_item.specs.declared.Point.{Point}
+use Rattle.tk_affine.specs.declared.AffFault.{AffFault}
+use Rattle.tk_affine.specs.declared.Matrix.{Matrix}
+use Rattle.tk_geom.specs.Arcs.{piece_count, spoke, arc_round, arc_pieces}
+use Rattle.tk_geom.specs.Pieces.{difference_of}
+
+not_zero : (n : ℕ) → n ≢ 0 → eqb n 0 ≡ false
+not_zero n ne = grind (arith, nat_tests)
+
+pub none : (m : Matrix) (c : Point) (a b rx ry : ℤ) → piece_count a b ≡ 0 → arc_pieces m c a b rx ry ≡ Ok []
+unfolding arc_pieces
+none m c a b rx ry e = rw e refl
+
+pub some : (m : Matrix) (c centre first : Point) (a b rx ry : ℤ) (n : ℕ) → n ≡ piece_count a b → n ≢ 0 → spoke m rx ry a ≡ Ok first
+    → centre ≡ difference_of c first → arc_pieces m c a b rx ry ≡ arc_round m centre a b rx ry n
+unfolding arc_pieces
+some m c centre first a b rx ry n count ne found at = rw (← count, not_zero n ne, found, at) refl
+
+pub faulty : (m : Matrix) (c : Point) (a b rx ry : ℤ) (n : ℕ) (fault : AffFault) → n ≡ piece_count a b → n ≢ 0 → spoke m rx ry a ≡ Err fault
+    → arc_pieces m c a b rx ry ≡ Err fault
+unfolding arc_pieces
+faulty m c a b rx ry n fault count ne found = rw (← count, not_zero n ne, found) refl

@@ -1,0 +1,10 @@
+use Rattle.std.proofs.Common.{ap}
+use Rattle.tk_item.specs.declared.Point.{Point}
+use Rattle.tk_geom.proofs.Sums.{same_xy, difference_is}
+use Rattle.tk_geom.proofs.places.Place.minus.Goals as goal
+
+pub returns-clause-value : goal.returns-clause-value
+returns-clause-value c =
+    same_xy _ _ _ _
+    (difference_is c.self.inside.x c.sp.result _ _ (ap (λ (p : Point). p.x) c.self.view_is) c.sp.ensures.value c.requires.x c.sp.ensures.range)
+    (difference_is c.self.inside.y c.sp-2.result _ _ (ap (λ (p : Point). p.y) c.self.view_is) c.sp-2.ensures.value c.requires.y c.sp-2.ensures.range)
