@@ -17,12 +17,12 @@ const LINE: &str = "<?xml version=\"1.0\" encoding=\"UTF-8\"?>
 /// 1: 0 for none. The first call of a shelf opens the file, and the second reads.
 type Limits = (usize, u64);
 
-/// A file of that name: the picture of one line, or of a corner, which isn't built.
+/// A file of that name: the picture of one line, or one with a node, which isn't built.
 fn picture(alloc: Global, name: &str, is_line: bool) -> Result<MemFile, AllocError> {
     let source: &[u8] = if is_line {
         b"\\begin{tikzpicture}\n\\draw (0,0) -- (1,0);\n\\end{tikzpicture}\n"
     } else {
-        b"\\begin{tikzpicture}\n\\draw (0,0) -| (1,1);\n\\end{tikzpicture}\n"
+        b"\\begin{tikzpicture}\n\\draw (0,0) node {};\n\\end{tikzpicture}\n"
     };
     Ok(MemFile {
         name: String::from_str(alloc, name)?,

@@ -6,7 +6,8 @@ use Rattle.tk_look.specs.declared.Look.{Look}
 use Rattle.tk_token.specs.declared.Code.{Code}
 use Rattle.tk_token.specs.declared.Code.TheVariants.{Budget, Levels, Unbuilt, UnknownCommand, EndMismatch}
 use Rattle.tk_token.specs.declared.Tok.{Tok}
-use Rattle.tk_token.specs.Answers.{Answer, fault}
+use Rattle.tk_token.specs.Answers.{Answer, ◌>>=◌, fault}
+use Rattle.tk_token.specs.Texts.{tokens_of}
 use Rattle.tk_token.specs.Spaces.{after_spaces}
 use Rattle.tk_token.proofs.Fixpoint.{kept}
 use Rattle.tk_expand.specs.Unread.{Unread, past_spaces}
@@ -17,30 +18,28 @@ use Rattle.tk_keys.specs.Environment.{Env, first_env, level}
 use Rattle.tk_keys.specs.Given.{Given}
 use Rattle.tk_keys.specs.Settings.{Set, one_setting}
 use Rattle.tk_keys.proofs.Reading.{Within, TokenWithin, spaces_at, spaces_within, token_within, after_name_within}
-use Rattle.tk_keys.proofs.Entries.{EnvAt}
+use Rattle.tk_keys.proofs.Entries.{EnvAt, text_stands}
 use Rattle.tk_keys.proofs.Ran.{one_setting_at}
-use Rattle.tk_keys.proofs.DeedPlaces.{EvaluatesAt as ValuesAt}
+use Rattle.tk_keys.proofs.DeedPlaces.{EvaluatesAt}
 use Rattle.tk_keys.proofs.Beginning.{first_env_at}
 use Rattle.tk_keys.proofs.Sets.{SetAt}
 use Rattle.tk_keys.proofs.Standing.{then_at, if_at, weaker_at}
 use Rattle.tk_picture.specs.declared.Compiled.{Compiled}
-use Rattle.tk_picture.specs.Commands.{BlockOpener, A_picture, A_scope, A_group, place_of_opener, Beginning, Begins_path, Opens_group, Closes_group, Begins_environment, Ends_environment, Begins_later, Begins_other, beginning_of, Block, block, CommandFlow, with_path_of, named_or, end_behind, styled_commands, set_or_unknown, command, command_at, commands_step, block_work, commands}
-use Rattle.tk_picture.specs.Keys.{styled}
-use Rattle.tk_picture.specs.Configurations.{Configuration, configuration, Progress, with_progress, situation_at, ahead_of}
+use Rattle.tk_picture.specs.Commands.{BlockOpener, A_picture, A_scope, A_group, place_of_opener, Beginning, Begins_path, Opens_group, Closes_group, Begins_environment, Ends_environment, Begins_later, Begins_other, beginning_of, Block, block, CommandFlow, named_or, end_behind, styled_commands, set_or_unknown, command, command_at, commands_step, block_work, commands}
+use Rattle.tk_path.specs.Keys.{with_env, with_keys, with_style, with_style_and_options}
+use Rattle.tk_path.specs.Configurations.{Configuration, configuration, situation_at, ahead_of}
+use Rattle.tk_picture.specs.Beginnings.{plain, path_begun, whole_path}
+use Rattle.tk_picture.specs.Progress.{Progress, progress_at, with_progress}
 use Rattle.tk_picture.specs.Documents.{is_word, compiled, nothing_after, picture_behind, document}
-use Rattle.tk_picture.specs.Flow.{Goes_on, Finishes, go_on}
-use Rattle.tk_picture.specs.Paths.{path}
-use Rattle.tk_picture.specs.Pictures.{Picture, first_picture, drawn_by}
-use Rattle.tk_picture.proofs.Moving.{At, Comes, Looks, Returns, then_returns, looked, ahead_at}
-use Rattle.tk_picture.proofs.KeyMoves.{styled_at}
-use Rattle.tk_picture.proofs.PathMoves.{EvaluatesAt, path_at}
+use Rattle.tk_path.specs.Flow.{Goes_on, Finishes, go_on}
+use Rattle.tk_path.specs.Paths.{path}
+use Rattle.tk_path.specs.Pictures.{first_picture}
+use Rattle.tk_path.proofs.Moving.{At, Comes, Looks, comes_then, looked, ahead_at}
+use Rattle.tk_picture.proofs.Returning.{Returns, then_returns}
+use Rattle.tk_path.proofs.KeyMoves.{keys_at, style_at, styled_at}
+use Rattle.tk_path.proofs.PathMoves.{path_at}
 
--- a path that is drawn costs nothing
-drawn_units : (look : Look) (segs : List Seg) (pic : Picture) → (drawn_by look segs pic).units ≡ pic.units
-drawn_units look [] pic = refl
-drawn_units look (seg ∷ segs) pic = refl
-
-module _ (P : ℕ → Type 0) (given : Given) (begin : P 0) (evaluates : EvaluatesAt P given) (values : ValuesAt P given) where
+module _ (P : ℕ → Type 0) (given : Given) (begin : P 0) (values : EvaluatesAt P given) where
   -- what a command leaves
   abbrev pub PartAt : Configuration → CommandFlow → Type 0
   PartAt c (Goes_on d) = Comes P given c d
@@ -54,14 +53,30 @@ module _ (P : ℕ → Type 0) (given : Given) (begin : P 0) (evaluates : Evaluat
   goes_on c p h k = record { fell = k.fell; at = record { env = h.env; rest = k.rest; end = k.end } }
 
   -- what comes back from a level of its own
-  from_inside : (c : Configuration) (inside : Env) (p : Progress) → Returns P given (record c { env = inside }) p → Returns P given c p
+  from_inside : (c : Configuration) (inside : Env) (p : Progress) → Returns P given (with_env inside c) p → Returns P given c p
   from_inside c inside p h = record { fell = h.fell; rest = h.rest; end = h.end }
 
-  -- what a path comes to, with the path in the picture
-  path_drawn : (c d : Configuration) → Comes P given c d → Returns P given c (with_path_of d)
-  path_drawn c d h =
-      let same = drawn_units d.env.graphics.look d.picture.path.segs d.picture in
-      record { fell = record { end = h.fell.end; units = (let a = h.fell.units in omega arith); work_falls = (let a = h.fell.work_falls in omega arith) }; rest = h.at.rest; end = h.at.end }
+  -- what a path begins with
+  begun_at : (keys : List ℕ) (at : ℕ) (c : Configuration) → P at → At P given c → Stands P (Comes P given c) (path_begun given keys at c)
+  unfolding path_begun
+  begun_at keys at c p h =
+      let d = plain c in
+      let from : (e : Configuration) → Comes P given d e → Comes P given c e = λ e m. record { fell = m.fell; at = m.at } in
+      then_at P (Comes P given d) (Comes P given c) (with_style given at (codes "every path") d) _ (style_at P given begin values at (codes "every path") d p (record { env = record { bodies = h.env.bodies; entries = h.env.entries }; rest = h.rest; end = h.end })) (λ e a.
+      weaker_at P (Comes P given e) (Comes P given c) (with_keys given at (tokens_of at keys) e) (λ f b. from f (comes_then P given d e f a b)) (keys_at P given begin values at (tokens_of at keys) e p (text_stands P at keys p) a.at))
+
+  whole_at : (keys : List ℕ) (at : ℕ) (c : Configuration) → P at → At P given c → Stands P (Comes P given c) (whole_path given keys at c)
+  unfolding whole_path
+  whole_at keys at c p h =
+      then_at P (Comes P given c) (Comes P given c) (path_begun given keys at c) _ (begun_at keys at c p h) (λ begun a.
+      weaker_at P (Comes P given begun) (Comes P given c) (path given begun) (λ end b. comes_then P given c begun end a b) (path_at P given begin values begun a.at))
+
+  -- a path in a level of its own
+  path_moves : (keys : List ℕ) (at : ℕ) (c : Configuration) (inside : Env) → P at → At P given c → EnvAt P inside → Stands P (PartAt c) (whole_path given keys at (with_env inside c) >>= λ end. Ok (Goes_on (with_progress c (progress_at end))))
+  path_moves keys at c inside p k m =
+      let d = with_env inside c in
+      then_at P (Comes P given d) (PartAt c) (whole_path given keys at d) _ (whole_at keys at d p (record { env = m; rest = k.rest; end = k.end })) (λ end r.
+      record { fell = record { end = r.fell.end; units = r.fell.units; work_falls = r.fell.work_falls }; at = record { env = k.env; rest = r.at.rest; end = r.at.end } })
 
   -- a name in braces, or its fault at a place
   pub named_at : (code : Code) (at : ℕ) (name : List ℕ) (list : Unread) → P at → StandAt P list.rest → P list.end → Stands P (Within P (length list.rest) list.end) (named_or code at (after_name code name list))
@@ -90,26 +105,23 @@ module _ (P : ℕ → Type 0) (given : Given) (begin : P 0) (evaluates : Evaluat
 
   module _ (rec : Block → Answer Progress) (h : (b : Block) → BlockAt b → Stands P (Returns P given b.start) (rec b)) where
     -- a block in a level of its own
-    block_moves : (opener : BlockOpener) (c : Configuration) (inside : Env) → P (place_of_opener opener) → At P given c → EnvAt P inside → Stands P (Returns P given c) (rec (block opener (record c { env = inside })))
+    block_moves : (opener : BlockOpener) (c : Configuration) (inside : Env) → P (place_of_opener opener) → At P given c → EnvAt P inside → Stands P (Returns P given c) (rec (block opener (with_env inside c)))
     block_moves opener c inside o k m =
-        let d : Configuration = record c { env = inside } in
+        let d = with_env inside c in
         weaker_at P (Returns P given d) (Returns P given c) (rec (block opener d)) (from_inside c inside) (h (block opener d) (record { opener = o; start = record { env = m; rest = k.rest; end = k.end } }))
 
     -- a style, options and commands
     pub styled_moves : (name : List ℕ) (opener : BlockOpener) (c : Configuration) → P (place_of_opener opener) → At P given c → Stands P (Returns P given c) (styled_commands given rec name opener c)
     styled_moves name opener c o k =
-        then_at P (Comes P given c) (Returns P given c) (styled given (place_of_opener opener) name c) _ (styled_at P given begin values (place_of_opener opener) name c o k) (λ e n.
+        then_at P (Comes P given c) (Returns P given c) (with_style_and_options given (place_of_opener opener) name c) _ (styled_at P given begin values (place_of_opener opener) name c o k) (λ e n.
         weaker_at P (Returns P given e) (Returns P given c) (rec (block opener e)) (λ q r. then_returns P given c e q n r) (h (block opener e) (record { opener = o; start = n.at })))
 
     command_moves : (b : Beginning) (t : Tok) (opener : BlockOpener) (c : Configuration) → P t.at → At P given c → Stands P (PartAt c) (command given rec b t opener c)
     command_moves (Begins_path keys) t opener c p k =
-        then_at P (EnvAt P) (PartAt c) (level t.at c.env) _ (level_at t.at c.env p k.env) (λ inside m.
-        let d : Configuration = record c { env = inside } in
-        then_at P (Comes P given d) (PartAt c) (path given keys t.at d) _ (path_at P given begin evaluates values keys t.at d p (record { env = m; rest = k.rest; end = k.end })) (λ e r.
-        goes_on c (with_path_of e) k (from_inside c inside (with_path_of e) (path_drawn d e r))))
+        then_at P (EnvAt P) (PartAt c) (level t.at c.env) _ (level_at t.at c.env p k.env) (λ inside m. path_moves keys t.at c inside p k m)
     command_moves Opens_group t opener c p k =
         then_at P (EnvAt P) (PartAt c) (level t.at c.env) _ (level_at t.at c.env p k.env) (λ inside m.
-        then_at P (Returns P given c) (PartAt c) (rec (block (A_group t.at) (record c { env = inside }))) _ (block_moves (A_group t.at) c inside p k m) (λ q r.
+        then_at P (Returns P given c) (PartAt c) (rec (block (A_group t.at) (with_env inside c))) _ (block_moves (A_group t.at) c inside p k m) (λ q r.
         goes_on c q k r))
     command_moves Closes_group t (A_picture at) c p k = p
     command_moves Closes_group t (A_scope at) c p k = p

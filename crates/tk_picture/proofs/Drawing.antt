@@ -2,29 +2,23 @@
 use Rattle.std.proofs.Common.{◌≡◌, ℕ, Bool, true, if◌then◌else◌, List, Ok, subst, ap, sym, ◌∙◌, codes}
 use Rattle.tk_token.specs.declared.Code.TheVariants.{Unbuilt}
 use Rattle.tk_token.specs.Answers.{Answer, ◌>>=◌, fault}
-use Rattle.tk_characters.specs.Characters.{dash}
-use Rattle.tk_token.specs.Kinds.{is_char}
 use Rattle.tk_token.specs.Spaces.{after_spaces}
 use Rattle.tk_token.proofs.Answering.{then_is, fails_then, fails_as}
-use Rattle.tk_expand.specs.Reading.{is_there, after_name}
+use Rattle.tk_expand.specs.Reading.{after_name}
 use Rattle.tk_expand.specs.Unread.{Unread}
 use Rattle.tk_keys.specs.Environment.{Env, first_env, level}
 use Rattle.tk_keys.specs.Given.{Given}
 use Rattle.tk_picture.specs.declared.Compiled.{Compiled}
 use Rattle.tk_picture.specs.Commands.{A_picture, styled_commands, commands}
-use Rattle.tk_picture.specs.Keys.{with_keys, with_style}
-use Rattle.tk_picture.specs.Configurations.{Configuration, configuration, Progress, Lookahead, place_ahead, misfit, must_be, behind_next}
+use Rattle.tk_path.specs.Keys.{with_keys, with_style}
+use Rattle.tk_path.specs.Configurations.{Configuration, configuration}
+use Rattle.tk_picture.specs.Progress.{Progress}
 use Rattle.tk_picture.specs.Documents.{compiled, nothing_after, picture_behind}
 use Rattle.tk_token.specs.declared.Refusal.{Refusal}
 use Rattle.tk_token.specs.Refusals.{Fails}
 use Rattle.tk_token.specs.Texts.{tokens_of}
-use Rattle.tk_picture.specs.Paths.{dashes, plain, path_begun}
-use Rattle.tk_picture.specs.Pictures.{Picture, first_picture}
-
--- where the first dash is there, the second one is next
-pub dashes_are : (given : Given) (first : Lookahead) → is_there (is_char dash) first.token ≡ true → dashes given first ≡ behind_next given (is_char dash) first.behind
-unfolding dashes must_be
-dashes_are given first there = ap (λ (b : Bool). (if b then Ok first.behind else fault (misfit first.token) (place_ahead first)) >>= behind_next given (is_char dash)) there
+use Rattle.tk_picture.specs.Beginnings.{plain, path_begun}
+use Rattle.tk_path.specs.Pictures.{Picture, first_picture}
 
 module _ (given now : Given) (at : ℕ) (list inside : Unread) (new env : Env) (pic : Picture) (same : now ≡ given) (first : new ≡ first_env given) (none : pic ≡ first_picture) (name : after_name Unbuilt (codes "tikzpicture") list ≡ Ok inside) (within : level at new ≡ Ok env) where
   -- the commands of a picture
@@ -62,11 +56,11 @@ module _ (given now : Given) (keys : List ℕ) (at : ℕ) (c d : Configuration) 
       (subst (λ (g : Given). Fails e (with_style g at (codes "every path") d)) same h))
 
   -- a path behind its style
-  pub style_goes : (later : Given) (styled : Configuration) → later ≡ given → with_style now at (codes "every path") d ≡ Ok styled → path_begun given keys at c ≡ with_keys later at (tokens_of at keys) styled
+  pub style_goes : (later : Given) (begun : Configuration) → later ≡ given → with_style now at (codes "every path") d ≡ Ok begun → path_begun given keys at c ≡ with_keys later at (tokens_of at keys) begun
   unfolding path_begun
-  style_goes later styled so done =
-      then_is (with_style given at (codes "every path") (plain c)) (λ s. with_keys given at (tokens_of at keys) s) styled
+  style_goes later begun so done =
+      then_is (with_style given at (codes "every path") (plain c)) (λ s. with_keys given at (tokens_of at keys) s) begun
       (ap (λ (d : Configuration). with_style given at (codes "every path") d) (sym is)
       ∙ ap (λ (g : Given). with_style g at (codes "every path") d) (sym same)
       ∙ done)
-      ∙ ap (λ (g : Given). with_keys g at (tokens_of at keys) styled) (sym so)
+      ∙ ap (λ (g : Given). with_keys g at (tokens_of at keys) begun) (sym so)

@@ -9,8 +9,8 @@ use Rattle.tk_item.specs.declared.Item.{Item}
 use Rattle.tk_item.specs.Frame.{IsProperFrame}
 use Rattle.tk_svg.specs.Document.{IsFamily}
 use Rattle.tk_svg.specs.Fitting.{Fits, FitsItem, IsPath}
-use Rattle.tk_picture.specs.declared.drawer.Drawer.{Drawer}
-use Rattle.tk_picture.specs.Views.{IsSound, OnlyPays, KeepsDrawn}
+use Rattle.tk_path.specs.declared.drawer.Drawer.{Drawer}
+use Rattle.tk_path.specs.Views.{IsSound, OnlyPays, KeepsDrawn}
 
 is_family : IsFamily (codes "monospace")
 is_family = record { some = lit< tt; each = refl }
@@ -31,10 +31,6 @@ fits d p f h = record {
 -- what is drawn fits as before where only units were paid
 pub sound_paid : (old new : Drawer) → OnlyPays old new → IsSound old → IsSound new
 sound_paid old new pays h = subst IsSound (sym pays) (record { items = h.items; paths = h.paths; proper = h.proper })
-
--- one after the other
-pub drawn_then : (a b c : Drawer) → KeepsDrawn a b → KeepsDrawn b c → KeepsDrawn a c
-drawn_then a b c f g = record { given = g.given ∙ f.given; lists = g.lists ∙ f.lists; outer = g.outer ∙ f.outer; saved = g.saved ∙ f.saved; items = g.items ∙ f.items; frame = g.frame ∙ f.frame }
 
 -- what is drawn fits as before where it stayed
 pub sound_kept : (old new : Drawer) → KeepsDrawn old new → IsSound old → IsSound new

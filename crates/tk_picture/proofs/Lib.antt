@@ -4,11 +4,9 @@ pub mod Drawing
 pub mod Evaluating
 pub mod Fitting
 pub mod Loops
-pub mod KeyMoves
-pub mod Moving
 pub mod Numbered
 pub mod Outcomes
-pub mod PathMoves
+pub mod Returning
+pub mod Scopes
 pub mod Sources
 pub mod Unbounded
-pub mod Scopes

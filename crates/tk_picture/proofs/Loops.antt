@@ -1,4 +1,4 @@
--- Operations and commands one after the other, as the code runs them. What is given stays the same along a loop.
+-- Commands one after the other, as the code runs them. What is given stays the same along a loop.
 use Rattle.std.specs.Prelude.{◌≡◌, ◌+◌, ◌<◌, ◌≤◌, length, List, ℕ, Option, Some, None, Ok}
 use Rattle.std.specs.Option.{option_to_list}
 use Rattle.std.proofs.Common.{subst, ◌∙◌, arith}
@@ -9,38 +9,16 @@ use Rattle.tk_token.specs.Refusals.{Fails}
 use Rattle.tk_token.proofs.Answering.{then_is, known_of, fails_then, fails_as}
 use Rattle.tk_keys.specs.Given.{Given}
 use Rattle.tk_picture.specs.Commands.{BlockOpener, block, CommandFlow, command_at, commands}
-use Rattle.tk_picture.specs.Configurations.{Configuration, Progress, Lookahead, work_at, ahead_of}
-use Rattle.tk_picture.specs.Flow.{Goes_on, Finishes, go_on}
-use Rattle.tk_picture.specs.Paths.{PathOpener, stretch, PathFlow, path_part, operations}
+use Rattle.tk_path.specs.Configurations.{Configuration, Lookahead, work_at, ahead_of}
+use Rattle.tk_picture.specs.Progress.{Progress}
+use Rattle.tk_path.specs.Flow.{Goes_on, Finishes, go_on}
 use Rattle.tk_keys.proofs.Standing.{ok_at}
-use Rattle.tk_picture.specs.Keys.{styled}
-use Rattle.tk_picture.proofs.KeyMoves.{styled_at}
-use Rattle.tk_picture.proofs.Moving.{Comes, Looks}
-use Rattle.tk_picture.proofs.PathMoves as path_moves
-use Rattle.tk_picture.proofs.Unbounded.{any_at, any_evaluates, part_less, operations_are, looks_any, Falls, command_falls, commands_are}
-use Rattle.tk_keys.proofs.Ran.{Any, any_evaluates as any_values}
-
--- ---- operations
-
--- a part of a path leaves less
-pub part_left : (given : Given) (c d : Configuration) → path_part given c ≡ Ok (Goes_on d) → work_at given d < work_at given c
-part_left given c d e = (known_of (path_moves.PartAt Any given tt (any_evaluates given) (any_values given) c) (path_part given c) (Goes_on d) e (part_less given c)).less.less
-
-module _ (given now : Given) (same : now ≡ given) (opener : PathOpener) (start c : Configuration) (told : operations given (stretch opener start) ≡ operations given (stretch opener c)) where
-  part_of : (r : Answer PathFlow) → path_part now c ≡ r → path_part given c ≡ r
-  part_of r e = subst (λ (g : Given). path_part g c ≡ r) same e
-
-  operations_go : operations given (stretch opener start) ≡ (path_part given c >>= go_on (λ next. operations given (stretch opener next)))
-  operations_go = told ∙ operations_are given (stretch opener c)
-
-  pub operations_more : (d : Configuration) → path_part now c ≡ Ok (Goes_on d) → operations given (stretch opener start) ≡ operations given (stretch opener d)
-  operations_more d e = operations_go ∙ then_is (path_part given c) (go_on (λ next. operations given (stretch opener next))) (Goes_on d) (part_of (Ok (Goes_on d)) e)
-
-  pub operations_finish : (p : Configuration) → path_part now c ≡ Ok (Finishes p) → operations given (stretch opener start) ≡ Ok p
-  operations_finish p e = operations_go ∙ then_is (path_part given c) (go_on (λ next. operations given (stretch opener next))) (Finishes p) (part_of (Ok (Finishes p)) e)
-
-  pub operations_fail : (e : Refusal) → Fails e (path_part now c) → Fails e (operations given (stretch opener start))
-  operations_fail e h = fails_as e _ _ operations_go (fails_then e (path_part given c) _ (subst (λ (g : Given). Fails e (path_part g c)) same h))
+use Rattle.tk_path.specs.Keys.{with_style_and_options}
+use Rattle.tk_path.proofs.KeyMoves.{styled_at}
+use Rattle.tk_path.proofs.Moving.{Comes, Looks}
+use Rattle.tk_path.proofs.Unbounded.{any_at, looks_any}
+use Rattle.tk_picture.proofs.Unbounded.{Falls, command_falls, commands_are}
+use Rattle.tk_keys.proofs.Ran.{Any, any_evaluates}
 
 -- ---- commands
 
@@ -87,5 +65,5 @@ module _ (given now : Given) (same : now ≡ given) (opener : BlockOpener) (star
 -- ---- styles
 
 -- a style and options leave no more than stood before them
-pub styled_work : (given : Given) (at : ℕ) (name : List ℕ) (c d : Configuration) → styled given at name c ≡ Ok d → work_at given d ≤ work_at given c
-styled_work given at name c d e = (known_of (Comes Any given c) (styled given at name c) d e (ok_at Any (Comes Any given c) (styled given at name c) (styled_at Any given tt (any_values given) at name c tt (any_at given c)))).fell.work_falls
+pub styled_work : (given : Given) (at : ℕ) (name : List ℕ) (c d : Configuration) → with_style_and_options given at name c ≡ Ok d → work_at given d ≤ work_at given c
+styled_work given at name c d e = (known_of (Comes Any given c) (with_style_and_options given at name c) d e (ok_at Any (Comes Any given c) (with_style_and_options given at name c) (styled_at Any given tt (any_evaluates given) at name c tt (any_at given c)))).fell.work_falls

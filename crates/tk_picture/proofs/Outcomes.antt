@@ -23,7 +23,7 @@ use Rattle.tk_keys.specs.State.{State, IsFirst, given_of}
 use Rattle.tk_picture.specs.declared.Compiled.{Compiled}
 use Rattle.tk_picture.specs.Documents.{document}
 use Rattle.tk_picture.specs.Outcome.{font_units, document_of, IsOutcome, of_tokens}
-use Rattle.tk_picture.proofs.Evaluating.{evaluates_at, values_at}
+use Rattle.tk_picture.proofs.Evaluating.{evaluates_at}
 use Rattle.tk_picture.proofs.Numbered.{numbers_back}
 use Rattle.tk_picture.proofs.Sources.{IsPlace, some_tokens, one_answer, refused_place, token_places, end_place, first_place}
 use Rattle.tk_picture.proofs.CommandMoves.{document_at}
@@ -93,7 +93,7 @@ module _ (budget : ℕ) (source : List ℕ) where
 
     fault_at : (f : Fault) → document (given_words names budget) (unread toks (length source)) ≡ Err f → IsPlace source f.at
     fault_at f h = told (document (given_words names budget) (unread toks (length source))) h
-        (document_at (IsPlace source) (given_words names budget) (first_place source (map (token_of names) toks) lexed) (evaluates_at (IsPlace source) (known_words names) budget) (values_at (IsPlace source) (known_words names) budget) (unread toks (length source)) (tok_places toks (token_places source (map (token_of names) toks) lexed)) (end_place source (map (token_of names) toks) lexed))
+        (document_at (IsPlace source) (given_words names budget) (first_place source (map (token_of names) toks) lexed) (evaluates_at (IsPlace source) (known_words names) budget) (unread toks (length source)) (tok_places toks (token_places source (map (token_of names) toks) lexed)) (end_place source (map (token_of names) toks) lexed))
       where
         told : (m : Answer Compiled) → m ≡ Err f → Stands (IsPlace source) (λ _. Unit {0}) m → IsPlace source f.at
         told (Ok c) e k = absurd cc

@@ -11,8 +11,9 @@ use Rattle.tk_expand.specs.Unread.{Unread}
 use Rattle.tk_keys.specs.Environment.{Env, level}
 use Rattle.tk_keys.specs.Given.{Given}
 use Rattle.tk_picture.specs.Commands.{BlockOpener, A_scope, Begins_environment, CommandFlow, named_or, styled_commands, command, commands}
-use Rattle.tk_picture.specs.Configurations.{Configuration, configuration, Progress, with_progress}
-use Rattle.tk_picture.specs.Flow.{Goes_on}
+use Rattle.tk_path.specs.Configurations.{Configuration, configuration}
+use Rattle.tk_picture.specs.Progress.{Progress, with_progress}
+use Rattle.tk_path.specs.Flow.{Goes_on}
 
 module _ (given : Given) (t : Tok) (opener : BlockOpener) (c : Configuration) (list : Unread) (inside : Env) (named : named_or UnknownCommand t.at (after_name UnknownCommand (codes "scope") c.list) ≡ Ok list) (within : level t.at c.env ≡ Ok inside) where
   -- the run goes on behind the scope

@@ -14,11 +14,12 @@ use Rattle.tk_expand.specs.Unread.{Unread}
 use Rattle.tk_keys.specs.Environment.{level}
 use Rattle.tk_keys.specs.Given.{Given}
 use Rattle.tk_keys.specs.Settings.{Set, one_setting}
-use Rattle.tk_picture.specs.Flow.{Flow, Goes_on, Finishes, go_on}
-use Rattle.tk_picture.specs.Keys.{styled}
-use Rattle.tk_picture.specs.Paths.{path}
-use Rattle.tk_picture.specs.Pictures.{with_units, drawn}
-use Rattle.tk_picture.specs.Configurations.{Configuration, configuration, Progress, progress, progress_at, with_progress, situation_at, work_at, ahead_of}
+use Rattle.tk_path.specs.Flow.{Flow, Goes_on, Finishes, go_on}
+use Rattle.tk_path.specs.Keys.{with_env, with_style_and_options}
+use Rattle.tk_path.specs.Pictures.{with_units}
+use Rattle.tk_path.specs.Configurations.{Configuration, configuration, situation_at, work_at, ahead_of}
+use Rattle.tk_picture.specs.Beginnings.{whole_path}
+use Rattle.tk_picture.specs.Progress.{Progress, progress, progress_at, with_progress}
 
 -- what commands stand in, with its place: a picture, to its `\end{tikzpicture}`, a scope, to its `\end{scope}`, or a group, to
 -- its `}`
@@ -90,10 +91,6 @@ block opener start = record { opener = opener; start = start }
 abbrev pub CommandFlow : Type 0
 CommandFlow = Flow Configuration Progress
 
--- the path that was read is there, with the look behind it
-abbrev pub with_path_of : Configuration → Progress
-with_path_of c = progress (drawn c.env.graphics.look c.picture) c.list
-
 -- the list behind a name in braces, or else a fault at a place
 abbrev pub named_or : Code → ℕ → Answer Unread → Answer Unread
 named_or code at (Ok list) = Ok list
@@ -119,18 +116,18 @@ module _ (given : Given) where
     -- a style and options, and the commands behind them
     abbrev pub styled_commands : List ℕ → BlockOpener → Configuration → Answer Progress
     styled_commands name opener c = do
-      begun ← styled given (place_of_opener opener) name c
+      begun ← with_style_and_options given (place_of_opener opener) name c
       commands (block opener begun)
 
     -- what a command leaves, whose first token was taken
     abbrev pub command : Beginning → Tok → BlockOpener → Configuration → Answer CommandFlow
     command (Begins_path keys) t opener c = do
       inside ← level t.at c.env
-      end ← path given keys t.at (record c { env = inside })
-      Ok (Goes_on (with_progress c (with_path_of end)))
+      end ← whole_path given keys t.at (with_env inside c)
+      Ok (Goes_on (with_progress c (progress_at end)))
     command Opens_group t opener c = do
       inside ← level t.at c.env
-      group_behind ← commands (block (A_group t.at) (record c { env = inside }))
+      group_behind ← commands (block (A_group t.at) (with_env inside c))
       Ok (Goes_on (with_progress c group_behind))
     command Closes_group t (A_group at) c = Ok (Finishes (progress_at c))
     command Closes_group t opener c = fault EndMismatch t.at

@@ -14,8 +14,8 @@ use Rattle.tk_keys.specs.Environment.{first_env, level}
 use Rattle.tk_keys.specs.Given.{Given}
 use Rattle.tk_picture.specs.declared.Compiled.{Compiled}
 use Rattle.tk_picture.specs.Commands.{A_picture, styled_commands, commands}
-use Rattle.tk_picture.specs.Configurations.{configuration}
-use Rattle.tk_picture.specs.Pictures.{Picture, first_picture}
+use Rattle.tk_path.specs.Configurations.{configuration}
+use Rattle.tk_path.specs.Pictures.{Picture, first_picture}
 
 -- `\` and that word
 abbrev pub is_word : List (List ℕ) → List ℕ → Kind → Bool

@@ -1,10 +1,6 @@
+pub mod Beginnings
 pub mod Commands
-pub mod Configurations
-pub mod Coordinates
 pub mod Documents
-pub mod Flow
-pub mod Keys
 pub mod Outcome
-pub mod Paths
-pub mod Pictures
+pub mod Progress
 pub mod Views

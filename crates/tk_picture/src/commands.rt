@@ -3,14 +3,18 @@
 ghost use Rattle.std.specs.Prelude.{◌≡◌, ◌<◌, length, OnOk};
 ghost use Rattle.tk_token.specs.Refusals.{Gives};
 ghost use Rattle.tk_picture.specs.Commands.{BlockOpener as AnOpener, place_of_opener, Begins_path, Opens_group, Begins_environment, Begins_other, begun_by, beginning_of, named_or, end_behind, styled_commands, block, command, command_at, commands};
-ghost use Rattle.tk_picture.specs.Pictures.{no_path};
 ghost use Rattle.tk_expand.specs.Reading.{after_name};
 ghost use Rattle.tk_expand.specs.Tells.{Tells};
-ghost use Rattle.tk_picture.specs.Views.{given_to, configuration_of, progress_of, flow_of, opener_of, begun_of, IsSound, KeepsGiven};
+ghost use Rattle.tk_expand.specs.Unread.{Unread};
+ghost use Rattle.tk_keys.specs.State.{Keeps};
+ghost use Rattle.tk_path.specs.Keys.{with_style_and_options};
+ghost use Rattle.tk_path.specs.Views.{style_name, given_to, IsSound, KeepsDrawn};
+ghost use Rattle.tk_picture.specs.Beginnings.{plain, path_begun, whole_path};
+ghost use Rattle.tk_picture.specs.Views.{place_of_run, progress_of, flow_of, opener_of, begun_of};
 
-use crate::drawer::{Drawer, Flow, unbuilt};
-use crate::trace::CurrentPath;
+use crate::unbuilt;
 use tk_expand::Input;
+use tk_path::{Drawer, Flow, Style};
 use tk_token::{Code, Fault, Kind, Refusal, Tok};
 
 /// What commands stand in, with its place.
@@ -50,171 +54,224 @@ impl BlockOpener {
     }
 }
 
-impl Drawer {
-    /// Runs commands, up to the end of what they stand in.
-    #[cycle(commands)]
-    pub(crate) fn commands(&mut self, input: &mut Input, opener: BlockOpener) -> Result<(), Refusal>
-        requires sound { IsSound self.old }
-        ensures gives { Gives (λ _. progress_of self.new no_path input.new) result
-            (commands (given_to self.old) (block (opener_of opener) (configuration_of self.old no_path input.old))) }
-        ensures sound { OnOk result (IsSound self.new) }
-        ensures kept { OnOk result (KeepsGiven self.old self.new) }
-    {
-        loop {
-            let first = self.ahead(input)?;
-            match self.command_at(input, opener, first)? {
-                Flow::GoesOn => {}
-                Flow::Finishes => return Ok(()),
-            }
+/// Runs commands, up to the end of what they stand in.
+#[cycle(commands)]
+pub(crate) fn commands(
+    drawer: &mut Drawer,
+    input: &mut Input,
+    opener: BlockOpener,
+) -> Result<(), Refusal>
+    requires sound { IsSound drawer.old }
+    ensures gives { Gives (λ _. progress_of drawer.new input.new) result
+        (commands (given_to drawer.old) (block (opener_of opener) (place_of_run drawer.old input.old))) }
+    ensures sound { OnOk result (IsSound drawer.new) }
+    ensures kept { OnOk result (Keeps drawer.old.state drawer.new.state) }
+{
+    loop {
+        let first = drawer.ahead(input)?;
+        match command_at(drawer, input, opener, first)? {
+            Flow::GoesOn => {}
+            Flow::Finishes => return Ok(()),
         }
     }
+}
 
-    /// Runs the command that begins with a token which was taken.
-    #[cycle(commands)]
-    fn command_at(
-        &mut self,
-        input: &mut Input,
-        opener: BlockOpener,
-        first: Option<Tok>,
-    ) -> Result<Flow, Refusal>
-        requires sound { IsSound self.old }
-        ensures gives { Gives (flow_of self.new no_path input.new) result
-            (command_at (given_to self.old) (commands (given_to self.old)) (opener_of opener) first (configuration_of self.old no_path input.old)) }
-        ensures sound { OnOk result (IsSound self.new) }
-        ensures kept { OnOk result (KeepsGiven self.old self.new) }
-    {
-        match first {
-            Some(tok) => self.command(input, opener, self.beginning(tok.kind), tok),
-            None => Err(Refusal::new(Code::EndMismatch, opener.place())),
-        }
+/// Runs the command that begins with a token which was taken.
+#[cycle(commands)]
+fn command_at(
+    drawer: &mut Drawer,
+    input: &mut Input,
+    opener: BlockOpener,
+    first: Option<Tok>,
+) -> Result<Flow, Refusal>
+    requires sound { IsSound drawer.old }
+    ensures gives { Gives (flow_of drawer.new input.new) result
+        (command_at (given_to drawer.old) (commands (given_to drawer.old)) (opener_of opener) first (place_of_run drawer.old input.old)) }
+    ensures sound { OnOk result (IsSound drawer.new) }
+    ensures kept { OnOk result (Keeps drawer.old.state drawer.new.state) }
+{
+    match first {
+        Some(tok) => command(drawer, input, opener, beginning_at(drawer, tok.kind), tok),
+        None => Err(Refusal::new(Code::EndMismatch, opener.place())),
     }
+}
 
-    /// Runs one command, whose first token was taken.
-    #[cycle(commands)]
-    fn command(
-        &mut self,
-        input: &mut Input,
-        opener: BlockOpener,
-        beginning: Beginning,
-        first: Tok,
-    ) -> Result<Flow, Refusal>
-        requires sound { IsSound self.old }
-        ensures gives { Gives (flow_of self.new no_path input.new) result
-            (command (given_to self.old) (commands (given_to self.old)) (begun_of beginning) first (opener_of opener) (configuration_of self.old no_path input.old)) }
-        ensures sound { OnOk result (IsSound self.new) }
-        ensures kept { OnOk result (KeepsGiven self.old self.new) }
-    {
-        match beginning {
-            Beginning::Path(keys) => self.draw(input, keys, first),
-            Beginning::OpenGroup => self.group(input, first),
-            Beginning::CloseGroup => match opener {
-                BlockOpener::Group(_) => Ok(Flow::Finishes),
-                _ => Err(Refusal::new(Code::EndMismatch, first.at)),
-            },
-            Beginning::BeginEnvironment => self.scope(input, first),
-            Beginning::EndEnvironment => {
-                expect_end(input, opener, first.at)?;
-                Ok(Flow::Finishes)
-            }
-            Beginning::Later => Err(unbuilt(first.at).into()),
-            Beginning::Other => self.set(input, first),
+/// Runs one command, whose first token was taken.
+#[cycle(commands)]
+fn command(
+    drawer: &mut Drawer,
+    input: &mut Input,
+    opener: BlockOpener,
+    beginning: Beginning,
+    first: Tok,
+) -> Result<Flow, Refusal>
+    requires sound { IsSound drawer.old }
+    ensures gives { Gives (flow_of drawer.new input.new) result
+        (command (given_to drawer.old) (commands (given_to drawer.old)) (begun_of beginning) first (opener_of opener) (place_of_run drawer.old input.old)) }
+    ensures sound { OnOk result (IsSound drawer.new) }
+    ensures kept { OnOk result (Keeps drawer.old.state drawer.new.state) }
+{
+    match beginning {
+        Beginning::Path(keys) => draw_path(drawer, input, keys, first),
+        Beginning::OpenGroup => group(drawer, input, first),
+        Beginning::CloseGroup => match opener {
+            BlockOpener::Group(_) => Ok(Flow::Finishes),
+            _ => Err(Refusal::new(Code::EndMismatch, first.at)),
+        },
+        Beginning::BeginEnvironment => scope(drawer, input, first),
+        Beginning::EndEnvironment => {
+            expect_end(input, opener, first.at)?;
+            Ok(Flow::Finishes)
         }
+        Beginning::Later => Err(unbuilt(first.at).into()),
+        Beginning::Other => set(drawer, input, first),
     }
+}
 
-    /// Runs a scope, whose `\begin` was taken, in a level of its own.
-    #[cycle(commands)]
-    fn scope(&mut self, input: &mut Input, first: Tok) -> Result<Flow, Refusal>
-        requires sound { IsSound self.old }
-        ensures gives { (opener : AnOpener) → Gives (flow_of self.new no_path input.new) result
-            (command (given_to self.old) (commands (given_to self.old)) Begins_environment first opener (configuration_of self.old no_path input.old)) }
-        ensures sound { OnOk result (IsSound self.new) }
-        ensures kept { OnOk result (KeepsGiven self.old self.new) }
-    {
-        expect_named(input, Code::UnknownCommand, first.at, b"scope")?;
-        self.state.open(first.at)?;
-        self.styled_commands(input, "every scope", BlockOpener::Scope(first.at))?;
-        self.state.close_uncounted();
+/// Runs a scope, whose `\begin` was taken, in a level of its own.
+#[cycle(commands)]
+fn scope(drawer: &mut Drawer, input: &mut Input, first: Tok) -> Result<Flow, Refusal>
+    requires sound { IsSound drawer.old }
+    ensures gives { (opener : AnOpener) → Gives (flow_of drawer.new input.new) result
+        (command (given_to drawer.old) (commands (given_to drawer.old)) Begins_environment first opener (place_of_run drawer.old input.old)) }
+    ensures sound { OnOk result (IsSound drawer.new) }
+    ensures kept { OnOk result (Keeps drawer.old.state drawer.new.state) }
+{
+    expect_named(input, Code::UnknownCommand, first.at, b"scope")?;
+    drawer.state.open(first.at)?;
+    styled_commands(
+        drawer,
+        input,
+        Style::EveryScope,
+        BlockOpener::Scope(first.at),
+    )?;
+    drawer.state.close_uncounted();
+    Ok(Flow::GoesOn)
+}
+
+/// Runs a style by itself, options, and the commands behind them.
+#[cycle(commands)]
+pub(crate) fn styled_commands(
+    drawer: &mut Drawer,
+    input: &mut Input,
+    style: Style,
+    opener: BlockOpener,
+) -> Result<(), Refusal>
+    requires sound { IsSound drawer.old }
+    ensures gives { Gives (λ _. progress_of drawer.new input.new) result
+        (styled_commands (given_to drawer.old) (commands (given_to drawer.old)) (style_name style) (opener_of opener) (place_of_run drawer.old input.old)) }
+    ensures sound { OnOk result (IsSound drawer.new) }
+    ensures kept { OnOk result (Keeps drawer.old.state drawer.new.state) }
+{
+    run_styled(drawer, input, style, opener.place())?;
+    commands(drawer, input, opener)
+}
+
+/// Runs what a picture or a scope begins with, whose command stands at a place: a style by itself, and options.
+#[tactic(auto, using(tk_expr::proofs::Runs::evaluated_is_the_answer))]
+fn run_styled(drawer: &mut Drawer, input: &mut Input, style: Style, at: u32) -> Result<(), Refusal>
+    ensures gives { Gives (λ _. place_of_run drawer.new input.new) result
+        (with_style_and_options (given_to drawer.old) at (style_name style) (place_of_run drawer.old input.old)) }
+    ensures kept { OnOk result (KeepsDrawn drawer.old drawer.new) }
+{
+    drawer.run_style_and_options(input, style, at)
+}
+
+/// Runs the commands of a group, whose `{` was taken, in a level of their own.
+#[cycle(commands)]
+fn group(drawer: &mut Drawer, input: &mut Input, first: Tok) -> Result<Flow, Refusal>
+    requires sound { IsSound drawer.old }
+    ensures gives { (opener : AnOpener) → Gives (flow_of drawer.new input.new) result
+        (command (given_to drawer.old) (commands (given_to drawer.old)) Opens_group first opener (place_of_run drawer.old input.old)) }
+    ensures sound { OnOk result (IsSound drawer.new) }
+    ensures kept { OnOk result (Keeps drawer.old.state drawer.new.state) }
+{
+    drawer.state.open(first.at)?;
+    commands(drawer, input, BlockOpener::Group(first.at))?;
+    drawer.state.close_uncounted();
+    Ok(Flow::GoesOn)
+}
+
+/// Draws a path, whose command was taken and stands for those keys, in a level of its own.
+fn draw_path(
+    drawer: &mut Drawer,
+    input: &mut Input,
+    keys: &str,
+    first: Tok,
+) -> Result<Flow, Refusal>
+    requires sound { IsSound drawer.old }
+    ensures gives { (opener : AnOpener) → Gives (flow_of drawer.new input.new) result
+        (command (given_to drawer.old) (commands (given_to drawer.old)) (Begins_path keys.now) first opener (place_of_run drawer.old input.old)) }
+    ensures sound { OnOk result (IsSound drawer.new) }
+    ensures kept { OnOk result (Keeps drawer.old.state drawer.new.state) }
+{
+    drawer.state.open(first.at)?;
+    whole_path(drawer, input, keys, first.at)?;
+    drawer.state.close_uncounted();
+    Ok(Flow::GoesOn)
+}
+
+/// Draws a path from behind its command, which stands at a place and has those keys.
+#[tactic(auto, unfolding(crate::specs::Beginnings::whole_path), using(tk_expr::proofs::Runs::evaluated_is_the_answer))]
+fn whole_path(drawer: &mut Drawer, input: &mut Input, keys: &str, at: u32) -> Result<(), Refusal>
+    requires sound { IsSound drawer.old }
+    ensures gives { Gives (λ _. place_of_run drawer.new input.new) result
+        (whole_path (given_to drawer.old) keys.now at (place_of_run drawer.old input.old)) }
+    ensures sound { OnOk result (IsSound drawer.new) }
+    ensures kept { OnOk result (Keeps drawer.old.state drawer.new.state) }
+{
+    begin_path(drawer, keys, at)?;
+    drawer.run_path(input)
+}
+
+/// Runs what a path begins with, whose command stands at a place and has those keys.
+#[tactic(auto, unfolding(crate::specs::Beginnings::path_begun))]
+fn begin_path(drawer: &mut Drawer, keys: &str, at: u32) -> Result<(), Refusal>
+    ensures gives { (rest : Unread) → Gives (λ _. place_of_run drawer.new rest) result
+        (path_begun (given_to drawer.old) keys.now at (place_of_run drawer.old rest)) }
+    ensures kept { OnOk result (KeepsDrawn drawer.old drawer.new) }
+{
+    unpaint(drawer);
+    drawer.run_style(Style::EveryPath, at)?;
+    drawer.run_written(keys, at)
+}
+
+/// Has nothing drawn or filled.
+fn unpaint(drawer: &mut Drawer)
+    ensures gives { (rest : Unread) → place_of_run drawer.new rest ≡ plain (place_of_run drawer.old rest) }
+    ensures kept { KeepsDrawn drawer.old drawer.new }
+{
+    drawer.state.set_paint(false, false);
+}
+
+/// Runs the setting that begins with a token which was taken; nothing else is a command.
+#[tactic(auto, using(tk_expr::proofs::Runs::evaluated_is_the_answer))]
+fn set(drawer: &mut Drawer, input: &mut Input, first: Tok) -> Result<Flow, Refusal>
+    requires sound { IsSound drawer.old }
+    ensures gives { (opener : AnOpener) → Gives (flow_of drawer.new input.new) result
+        (command (given_to drawer.old) (commands (given_to drawer.old)) Begins_other first opener (place_of_run drawer.old input.old)) }
+    ensures sound { OnOk result (IsSound drawer.new) }
+    ensures kept { OnOk result (Keeps drawer.old.state drawer.new.state) }
+{
+    if drawer.state.run_one(first, input)? {
         Ok(Flow::GoesOn)
+    } else {
+        Err(Refusal::new(Code::UnknownCommand, first.at))
     }
+}
 
-    /// Runs a style by itself, options, and the commands behind them.
-    #[cycle(commands)]
-    pub(crate) fn styled_commands(
-        &mut self,
-        input: &mut Input,
-        name: &str,
-        opener: BlockOpener,
-    ) -> Result<(), Refusal>
-        requires sound { IsSound self.old }
-        ensures gives { Gives (λ _. progress_of self.new no_path input.new) result
-            (styled_commands (given_to self.old) (commands (given_to self.old)) name.now (opener_of opener) (configuration_of self.old no_path input.old)) }
-        ensures sound { OnOk result (IsSound self.new) }
-        ensures kept { OnOk result (KeepsGiven self.old self.new) }
-    {
-        self.run_styled(input, name, opener.place())?;
-        self.commands(input, opener)
-    }
-
-    /// Runs the commands of a group, whose `{` was taken, in a level of their own.
-    #[cycle(commands)]
-    fn group(&mut self, input: &mut Input, first: Tok) -> Result<Flow, Refusal>
-        requires sound { IsSound self.old }
-        ensures gives { (opener : AnOpener) → Gives (flow_of self.new no_path input.new) result
-            (command (given_to self.old) (commands (given_to self.old)) Opens_group first opener (configuration_of self.old no_path input.old)) }
-        ensures sound { OnOk result (IsSound self.new) }
-        ensures kept { OnOk result (KeepsGiven self.old self.new) }
-    {
-        self.state.open(first.at)?;
-        self.commands(input, BlockOpener::Group(first.at))?;
-        self.state.close_uncounted();
-        Ok(Flow::GoesOn)
-    }
-
-    /// Draws a path, whose command was taken and stands for those keys, in a level of its own.
-    fn draw(&mut self, input: &mut Input, keys: &str, first: Tok) -> Result<Flow, Refusal>
-        requires sound { IsSound self.old }
-        ensures gives { (opener : AnOpener) → Gives (flow_of self.new no_path input.new) result
-            (command (given_to self.old) (commands (given_to self.old)) (Begins_path keys.now) first opener (configuration_of self.old no_path input.old)) }
-        ensures sound { OnOk result (IsSound self.new) }
-        ensures kept { OnOk result (KeepsGiven self.old self.new) }
-    {
-        let mut path = CurrentPath::new(self.state.allocator());
-        self.state.open(first.at)?;
-        self.path(input, keys, first.at, &mut path)?;
-        self.add(path)?;
-        self.state.close_uncounted();
-        Ok(Flow::GoesOn)
-    }
-
-    /// Runs the setting that begins with a token which was taken; nothing else is a command.
-    #[tactic(auto, using(tk_expr::proofs::Runs::evaluated_is_the_answer))]
-    fn set(&mut self, input: &mut Input, first: Tok) -> Result<Flow, Refusal>
-        requires sound { IsSound self.old }
-        ensures gives { (opener : AnOpener) → Gives (flow_of self.new no_path input.new) result
-            (command (given_to self.old) (commands (given_to self.old)) Begins_other first opener (configuration_of self.old no_path input.old)) }
-        ensures sound { OnOk result (IsSound self.new) }
-        ensures kept { OnOk result (KeepsGiven self.old self.new) }
-    {
-        if self.state.run_one(first, input)? {
-            Ok(Flow::GoesOn)
-        } else {
-            Err(Refusal::new(Code::UnknownCommand, first.at))
-        }
-    }
-
-    /// What a token begins among the commands of a picture.
-    fn beginning(&self, kind: Kind) -> Beginning
-        ensures { begun_of result ≡ beginning_of self.now.state.names kind }
-    {
-        match kind {
-            Kind::Word(n) => match self.state.names().word(n) {
-                Some(word) => begun_by(word),
-                None => Beginning::Other,
-            },
-            Kind::Open => Beginning::OpenGroup,
-            Kind::Close => Beginning::CloseGroup,
-            _ => Beginning::Other,
-        }
+/// What a token begins among the commands of a picture.
+fn beginning_at(drawer: &Drawer, kind: Kind) -> Beginning
+    ensures { begun_of result ≡ beginning_of drawer.now.state.names kind }
+{
+    match kind {
+        Kind::Word(n) => match drawer.state.names().word(n) {
+            Some(word) => begun_by(word),
+            None => Beginning::Other,
+        },
+        Kind::Open => Beginning::OpenGroup,
+        Kind::Close => Beginning::CloseGroup,
+        _ => Beginning::Other,
     }
 }
 

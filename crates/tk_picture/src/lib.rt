@@ -1,23 +1,19 @@
 //! Pictures: what the tokens of a source draw.
 #![tactic(auto)]
 
+ghost use Rattle.std.specs.Prelude.{◌≡◌};
+
 mod commands;
-mod coordinate;
-mod drawer;
-mod keys;
 mod laws;
-mod path;
 mod picture;
-#[cfg(test)]
-mod tests;
-mod trace;
 
 pub use laws::{
     a_source_has_one_outcome, commands_are_never_stuck, commands_are_their_step,
-    each_source_has_an_outcome, operations_are_never_stuck, operations_are_their_step,
+    each_source_has_an_outcome,
 };
 pub use picture::compile;
 use tk_item::Drawing;
+use tk_token::{Code, Fault};
 
 /// What a source draws, and what it costs.
 #[derive(Drop)]
@@ -25,4 +21,11 @@ pub struct Compiled {
     pub drawing: Drawing,
     /// The units that were paid.
     pub units: u64,
+}
+
+/// The fault of a form that isn't built.
+fn unbuilt(at: u32) -> Fault
+    ensures { result ≡ record { code = Code.Unbuilt; at = at } }
+{
+    Fault::new(Code::Unbuilt, at)
 }

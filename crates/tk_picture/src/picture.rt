@@ -11,17 +11,19 @@ ghost use Rattle.tk_expand.specs.Tells.{Tells};
 ghost use Rattle.tk_picture.specs.declared.Compiled.{Compiled as ACompiled};
 ghost use Rattle.tk_picture.specs.Documents.{is_word, no_frame, compiled, nothing_after, picture_behind, document};
 ghost use Rattle.tk_picture.specs.Outcome.{IsOutcome, font_units};
-ghost use Rattle.tk_picture.specs.Views.{given_to, picture_of, IsSound, IsNew};
-ghost use Rattle.tk_picture.specs.Pictures.{no_path};
+ghost use Rattle.tk_path.specs.CurrentPaths.{no_path};
+ghost use Rattle.tk_path.specs.Views.{given_to, picture_of, IsSound};
+ghost use Rattle.tk_picture.specs.Views.{IsNew};
 
-use crate::Compiled;
-use crate::commands::BlockOpener;
-use crate::drawer::{Drawer, scaled, unbuilt};
+use crate::commands::{BlockOpener, styled_commands};
+use crate::{Compiled, unbuilt};
 use std::alloc::{AllocError, Global};
 use tk_expand::Input;
 use tk_expr::FontUnits;
 use tk_item::{Drawing, Frame, Items, Text};
 use tk_keys::State;
+use tk_num::Scaled;
+use tk_path::{Drawer, Style};
 use tk_store::Body;
 use tk_token::{Code, Fault, Kind, Lexed, Refusal, Tok, lex};
 
@@ -34,22 +36,41 @@ const EM: i64 = 655_360;
 /// An ex of that font, 4.3pt.
 const EX: i64 = 281_805;
 
-/// The drawing of a source, and the units that it costs: `\begin{tikzpicture}`, commands and `\end{tikzpicture}`. The
-/// commands are paths of straight lines between coordinates, the definitions of macros, and groups. It takes time and
-/// memory linear in the source's length and the units.
+/// The drawing of a source, and the units that it costs: `\begin{tikzpicture}`, options in brackets or none, commands and
+/// `\end{tikzpicture}`, with nothing but Spaces round them. A command is a path, a scope, a setting or a group; settings are the
+/// definitions of macros, of keys and of styles. It takes time and memory linear in the source's length and the units, and for
+/// a power time linear in its exponent.
 ///
-/// In the picture macro calls are expanded, and paid for out of the budget: a call costs one unit more than the tokens of
-/// its text. A coordinate is `(x,y)`, `(angle:radius)` or `(angle:radius and radius)` of expressions; it ends, as it is
-/// written, at the first `)` outside braces, and is then expanded. A number without a unit counts centimetres.
+/// A path has straight lines between coordinates, `cycle`, and options, up to its `;`. The look at the `;` says how it is drawn
+/// and filled; with lines it widens the frame even where it is neither. Picture, scope, group and path are levels: what is set
+/// in one ends with it. A picture runs the style `every picture` before its options, a scope `every scope`, and a path
+/// `every path` and then the keys of its command. Options set the look, or put a step behind those of the transformation.
+///
+/// Macro calls are expanded, and paid for out of the budget, as the code of keys is: one unit more than the tokens of the text.
+/// A coordinate is `(x,y)`, `(angle:radius)` or `(angle:radius and radius)` of expressions; it ends, as it is written, at the
+/// first `)` outside braces, and is then expanded. A number without a unit counts the vectors `x` and `y` of the look, which
+/// are 1cm long unless a key sets them, and the transformation of that moment takes the point to its place.
 ///
 /// A source that stands for no drawing is refused at its first fault: first those of `lex`, then those of running it from
-/// the front on. `MacroSyntax` comes at the first token that doesn't fit a definition, or at the source's length.
-/// `MacroArg` comes at the word of a call that lacks an argument, and `Budget` at that of a call that can't be paid.
-/// `Levels` comes at the `{` or the command that would open a 129th level. `Unbuilt` comes at the first token with which
-/// no source of the form goes on, at the `(` of a coordinate of another form, or at the source's length. `Coordinate`
-/// comes at the `(` of a coordinate with a second `,`. `Expression`, `TooDeep`, `TooLarge`, `DivZero` and `Domain` come in
-/// an expression; `Expression` also at the `(` of a coordinate that lacks one, and `TooLarge` at the `(` of one whose
-/// lengths in centimetres are past the range of a `Scaled`.
+/// the front on.
+///
+/// - `MacroSyntax` comes at the first token that doesn't fit a definition, or at the source's length, `MacroArg` at the word of
+///   a call that lacks an argument, and `Budget` at what can't be paid: a call, or the part of a key.
+/// - Those of keys stand at the part of their key list, and those of its code in the code; `KeyDepth` stands at the command that
+///   would run a 257th key list.
+/// - `Levels` comes at the command or the `{` that would open a 129th level.
+/// - `UnknownCommand` comes at the first token of what is no command, and at a `\begin` of another name.
+/// - `EndMismatch` comes at an `\end` or `}` that doesn't end what was opened last, and at what was opened last where the source
+///   ends before it.
+/// - `PathSyntax` comes at the `[` of options without their `]`, and at the source's length where it ends between the parts of
+///   a path.
+/// - `Coordinate` comes at the `(` of a coordinate with a second `,` or without its `)`.
+/// - `Expression`, `TooDeep`, `TooLarge`, `DivZero` and `Domain` come in an expression; `Expression` also at the `(` of a
+///   coordinate that lacks one. `TooLarge` also comes at the `(` of a coordinate whose lengths or whose point are out of range,
+///   and at the part of a key that makes a number of the transformation so.
+/// - `Unbuilt` comes before the picture, behind it and on a path at the first token with which no source of the form goes on, at
+///   `\node`, `\coordinate` and `\foreach`, at the `(` of a coordinate of another form, and at the source's length where it ends
+///   outside the picture or inside `--` or `cycle`.
 pub fn compile(alloc: Global, source: &[u8], budget: u64) -> Result<Compiled, Refusal>
     requires short { length source.now ≤ 16777216 }
     requires few { budget ≤ 20000000 }
@@ -69,50 +90,48 @@ pub fn compile(alloc: Global, source: &[u8], budget: u64) -> Result<Compiled, Re
         items: Items::new(alloc),
         frame: None,
     };
-    drawer.document(&mut input)?;
+    document(&mut drawer, &mut input)?;
     Ok(compiled(alloc, drawer)?)
 }
 
-impl Drawer {
-    /// Draws the picture of a whole source.
-    #[tactic(auto, unfolding(crate::specs::Documents::document))]
-    fn document(&mut self, input: &mut Input) -> Result<(), Refusal>
-        requires { IsNew self.old }
-        ensures gives { Gives (λ _. compiled (picture_of self.new no_path)) result (document (given_to self.old) input.old) }
-        ensures sound { OnOk result (IsSound self.new) }
-    {
-        input.skip_spaces();
-        let begin = input.token(Code::Unbuilt)?;
-        if !self.is_word(begin.kind, "begin") {
-            return Err(unbuilt(begin.at).into());
-        }
-        self.picture(input, begin.at)
+/// Draws the picture of a whole source.
+#[tactic(auto, unfolding(crate::specs::Documents::document))]
+fn document(drawer: &mut Drawer, input: &mut Input) -> Result<(), Refusal>
+    requires { IsNew drawer.old }
+    ensures gives { Gives (λ _. compiled (picture_of drawer.new no_path)) result (document (given_to drawer.old) input.old) }
+    ensures sound { OnOk result (IsSound drawer.new) }
+{
+    input.skip_spaces();
+    let begin = input.token(Code::Unbuilt)?;
+    if !is_word(drawer, begin.kind, "begin") {
+        return Err(unbuilt(begin.at).into());
     }
+    picture(drawer, input, begin.at)
+}
 
-    /// Draws the picture behind a `\begin` at that place, with nothing behind it.
-    #[tactic(auto, unfolding(crate::specs::Documents::picture_behind))]
-    fn picture(&mut self, input: &mut Input, at: u32) -> Result<(), Refusal>
-        requires { IsNew self.old }
-        ensures gives { Gives (λ _. compiled (picture_of self.new no_path)) result (picture_behind (given_to self.old) at input.old) }
-        ensures sound { OnOk result (IsSound self.new) }
-    {
-        input.expect_name(Code::Unbuilt, b"tikzpicture")?;
-        self.state.open(at)?;
-        self.styled_commands(input, "every picture", BlockOpener::Picture(at))?;
-        Ok(expect_nothing(input)?)
-    }
+/// Draws the picture behind a `\begin` at that place, with nothing behind it.
+#[tactic(auto, unfolding(crate::specs::Documents::picture_behind))]
+fn picture(drawer: &mut Drawer, input: &mut Input, at: u32) -> Result<(), Refusal>
+    requires { IsNew drawer.old }
+    ensures gives { Gives (λ _. compiled (picture_of drawer.new no_path)) result (picture_behind (given_to drawer.old) at input.old) }
+    ensures sound { OnOk result (IsSound drawer.new) }
+{
+    input.expect_name(Code::Unbuilt, b"tikzpicture")?;
+    drawer.state.open(at)?;
+    styled_commands(drawer, input, Style::EveryPicture, BlockOpener::Picture(at))?;
+    Ok(expect_nothing(input)?)
+}
 
-    /// Whether a token is that control word.
-    fn is_word(&self, kind: Kind, wanted: &str) -> bool
-        ensures { result ≡ is_word self.now.state.names wanted.now kind }
-    {
-        match kind {
-            Kind::Word(n) => match self.state.names().word(n) {
-                Some(word) => word == wanted,
-                None => wanted.is_empty(),
-            },
-            _ => false,
-        }
+/// Whether a token is that control word.
+fn is_word(drawer: &Drawer, kind: Kind, wanted: &str) -> bool
+    ensures { result ≡ is_word drawer.now.state.names wanted.now kind }
+{
+    match kind {
+        Kind::Word(n) => match drawer.state.names().word(n) {
+            Some(word) => word == wanted,
+            None => wanted.is_empty(),
+        },
+        _ => false,
     }
 }
 
@@ -141,7 +160,7 @@ fn compiled(alloc: Global, drawer: Drawer) -> Result<Compiled, AllocError>
         drawing: Drawing {
             frame: whole_frame(frame),
             family,
-            size: scaled(FONT_SIZE),
+            size: Scaled::within(FONT_SIZE),
             items,
         },
         units,
@@ -164,8 +183,8 @@ fn font_units() -> FontUnits
     ensures { result ≡ font_units }
 {
     FontUnits {
-        em: scaled(EM),
-        ex: scaled(EX),
+        em: Scaled::within(EM),
+        ex: Scaled::within(EX),
     }
 }
 

@@ -1,0 +1,13 @@
+pub mod Configurations
+pub mod Coordinates
+pub mod CurrentPaths
+pub mod Flow
+pub mod Keys
+pub mod Measures
+pub mod Meshes
+pub mod Operations
+pub mod Paths
+pub mod Pictures
+pub mod Targets
+pub mod Views
+pub mod Words

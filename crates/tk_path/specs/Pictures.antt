@@ -1,0 +1,66 @@
+-- A picture as far as it is drawn.
+use Rattle.std.specs.Prelude.{ℕ, ◌||◌, if◌then◌else◌, List, [], ◌∷◌, ◌++◌, Option, None, Some, ℤ, pos}
+use Rattle.tk_item.specs.declared.Fill.{Fill}
+use Rattle.tk_item.specs.declared.Frame.{Frame}
+use Rattle.tk_item.specs.declared.Item.{Item}
+use Rattle.tk_item.specs.declared.Item.TheVariants.{Path}
+use Rattle.tk_item.specs.declared.Seg.{Seg}
+use Rattle.tk_item.specs.declared.Stroke.{Stroke}
+use Rattle.tk_item.specs.Frame.{half_width, points_of_path, round_points}
+use Rattle.tk_look.specs.declared.Look.{Look}
+use Rattle.tk_path.specs.CurrentPaths.{CurrentPath, no_path}
+
+-- a picture so far: its items, the frame round them, the units paid, and the path that is being read
+pub record Picture : Type 0 where
+  pub items : List Item
+  pub frame : Option Frame
+  pub units : ℕ
+  pub path : CurrentPath
+
+-- nothing is drawn or paid
+abbrev pub first_picture : Picture
+first_picture = record { items = []; frame = None; units = 0; path = no_path }
+
+-- another path is being read
+abbrev pub with_path : CurrentPath → Picture → Picture
+with_path path pic = record pic { path = path }
+
+-- how a look fills a path
+abbrev pub look_fill : Look → Option Fill
+look_fill look = if look.fill_on then Some (record { rgb = look.fill; rule = look.fill_rule }) else None
+
+-- how a look draws a path
+abbrev pub look_stroke : Look → Option Stroke
+look_stroke look = if look.draw_on then Some (record {
+  rgb = look.draw;
+  width = look.line_width;
+  cap = look.line_cap;
+  join = look.line_join;
+  miter = look.miter_limit;
+  dash = look.dash_pattern;
+  phase = look.dash_phase;
+}) else None
+
+-- how far a path reaches round its points
+abbrev pub look_reach : Look → ℤ
+look_reach look = if look.draw_on then half_width look.line_width else pos 0
+
+-- the item that a path is, if it is drawn or filled
+abbrev pub path_items : Look → List Seg → List Item
+path_items look segs = if look.fill_on || look.draw_on then Path segs (look_fill look) (look_stroke look) ∷ [] else []
+
+-- a path with pieces is there, painted or not
+abbrev pub drawn_by : Look → List Seg → Picture → Picture
+drawn_by look [] pic = pic
+drawn_by look (seg ∷ segs) pic = record pic {
+  items = pic.items ++ path_items look (seg ∷ segs);
+  frame = round_points (look_reach look) pic.frame (points_of_path (seg ∷ segs));
+}
+
+-- the path that was read is there, with a look
+abbrev pub drawn : Look → Picture → Picture
+drawn look pic = with_path no_path (drawn_by look pic.path.segs pic)
+
+-- a picture for which so many units are paid
+abbrev pub with_units : Picture → ℕ → Picture
+with_units pic units = record pic { units = units }

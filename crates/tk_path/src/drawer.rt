@@ -1,0 +1,129 @@
+//! A picture as it is drawn, and what stands next in its list.
+
+ghost use Rattle.std.specs.Prelude.{◌≡◌, ◌≤ℤ◌, pos, OnOk};
+ghost use Rattle.tk_svg.specs.Fitting.{FitsStroke};
+ghost use Rattle.tk_expr.specs.Evaluates.{Evaluation};
+ghost use Rattle.tk_keys.specs.State.{given_of};
+ghost use Rattle.tk_token.specs.Refusals.{Gives};
+ghost use Rattle.tk_path.specs.Configurations.{token_ahead, ahead_of};
+ghost use Rattle.tk_path.specs.Pictures as pictures;
+ghost use Rattle.tk_path.specs.Pictures.{drawn};
+ghost use Rattle.tk_path.specs.CurrentPaths.{CurrentPath as ACurrentPath, no_path};
+ghost use Rattle.tk_path.specs.Views.{given_to, picture_of, configuration_of, lookahead_of, OnlyPays, IsSound};
+
+use crate::trace::CurrentPath;
+use std::alloc::AllocError;
+use tk_expand::Input;
+use tk_item::{Fill, Frame, Item, Items, Stroke, half_width, widen};
+use tk_keys::State;
+use tk_look::Look;
+use tk_token::{Code, Refusal, Tok};
+
+/// What a part of a run leaves: more parts follow, or the end was met.
+#[derive(Clone, Copy)]
+pub enum Flow {
+    GoesOn,
+    Finishes,
+}
+
+/// A picture as it is drawn: the state of the run, the items so far, and the frame round them. Each item is a path that
+/// fits an SVG document.
+#[derive(Drop)]
+pub struct Drawer {
+    pub state: State,
+    pub items: Items,
+    pub frame: Option<Frame>,
+}
+
+impl Drawer {
+    /// Takes the next token that is no Space, with the Spaces before it.
+    #[tactic(auto, unfolding(crate::specs::Configurations::ahead_of))]
+    pub fn ahead(&mut self, input: &mut Input) -> Result<Option<Tok>, Refusal>
+        ensures gives { (ev : Evaluation) (path : ACurrentPath) → Gives (λ tok. lookahead_of tok self.new path input.new) result
+            (ahead_of (given_of ev self.old.state) (configuration_of self.old path input.old)) }
+        ensures pays { OnlyPays self.old self.new }
+    {
+        self.state.next_solid(input)
+    }
+
+    /// Takes the next token.
+    #[tactic(auto, unfolding(crate::specs::Configurations::token_ahead))]
+    pub(crate) fn token(&mut self, input: &mut Input) -> Result<Option<Tok>, Refusal>
+        ensures gives { (path : ACurrentPath) → Gives (λ tok. lookahead_of tok self.new path input.new) result
+            (token_ahead (given_to self.old) (configuration_of self.old path input.old)) }
+        ensures pays { OnlyPays self.old self.new }
+    {
+        self.state.next(input)
+    }
+
+    /// Puts the path that was read into the picture: it widens the frame, and is an item where the look fills or draws it.
+    pub(crate) fn add(&mut self, path: CurrentPath) -> Result<(), AllocError>
+        requires sound { IsSound self.old }
+        ensures picture { OnOk result (picture_of self.new no_path ≡ drawn self.old.state.graphics.look (picture_of self.old path)) }
+        ensures sound { OnOk result (IsSound self.new) }
+        ensures state { OnOk result (self.new.state ≡ self.old.state) }
+    {
+        let Some(segs) = path.into_segs() else {
+            return Ok(());
+        };
+        let look = &self.state.graphics().look;
+        self.frame = widen(self.frame, segs.as_slice(), look_reach(look));
+        if look.fill_on || look.draw_on {
+            let item = Item::Path(segs, look_fill(look), look_stroke(look));
+            self.items.push(item)?;
+        }
+        Ok(())
+    }
+}
+
+/// How a look fills a path.
+fn look_fill(look: &Look) -> Option<Fill>
+    ensures { result ≡ pictures.look_fill look.now }
+{
+    if !look.fill_on {
+        return None;
+    }
+    Some(Fill {
+        rgb: look.fill,
+        rule: look.fill_rule,
+    })
+}
+
+/// How a look draws a path.
+fn look_stroke(look: &Look) -> Option<Stroke>
+    ensures stroke { result ≡ pictures.look_stroke look.now }
+    ensures fits { FitsStroke result }
+{
+    if !look.draw_on {
+        return None;
+    }
+    Some(Stroke {
+        rgb: look.draw,
+        width: look.line_width.length(),
+        cap: look.line_cap,
+        join: look.line_join,
+        miter: look.miter_limit.number(),
+        dash: look.dash_pattern.copy(),
+        phase: look.dash_phase,
+    })
+}
+
+/// How far a path reaches round its points: half the width of its lines, if it is drawn.
+fn look_reach(look: &Look) -> i64
+    ensures value { result ≡ pictures.look_reach look.now }
+    ensures sign { pos 0 ≤ℤ result }
+    ensures most { result ≤ℤ pos 536870912 }
+{
+    if look.draw_on {
+        half_width(look.line_width.length())
+    } else {
+        0
+    }
+}
+
+/// The fault of a token that fits nothing on a path.
+pub(crate) fn misfit(at: u32) -> Refusal
+    ensures { result ≡ Refusal.Fault (record { code = Code.PathSyntax; at = at }) }
+{
+    Refusal::new(Code::PathSyntax, at)
+}

@@ -1,0 +1,206 @@
+//! What circles, arcs and grids are measured by.
+
+ghost use Rattle.std.specs.Prelude.{◌≡◌, OnOk};
+ghost use Rattle.tk_token.specs.Refusals.{Gives};
+ghost use Rattle.tk_expr.specs.Evaluated.{evaluated};
+ghost use Rattle.tk_path.specs.CurrentPaths.{CurrentPath as ACurrentPath};
+ghost use Rattle.tk_path.specs.Measures as spec;
+ghost use Rattle.tk_path.specs.Views.{given_to, configuration_of, lookahead_of, reached_at, KeepsDrawn};
+
+use crate::drawer::Drawer;
+use crate::keys::option_list;
+use tk_affine::Matrix;
+use tk_expand::{Input, is_there};
+use tk_expr::{FontUnits, Value, eval, length_along, placed};
+use tk_look::GraphicsState;
+use tk_num::{Scaled, add, sub};
+use tk_token::{Code, Fault, Refusal, Sought, Tok, before_char, first_outside};
+
+/// What circles, arcs and grids are measured by.
+#[derive(Clone, Copy)]
+pub(crate) struct Measures {
+    pub(crate) matrix: Matrix,
+    /// The lengths of the x and y vectors.
+    pub(crate) x: Scaled,
+    pub(crate) y: Scaled,
+    pub(crate) radii: Radii,
+    pub(crate) start_angle: Option<Scaled>,
+    pub(crate) end_angle: Option<Scaled>,
+    pub(crate) delta_angle: Option<Scaled>,
+    pub(crate) xstep: Value,
+    pub(crate) ystep: Value,
+}
+
+/// Two radii as they were given: a number without a unit counts x or y vectors.
+#[derive(Clone, Copy)]
+pub(crate) struct Radii {
+    pub(crate) x: Value,
+    pub(crate) y: Value,
+}
+
+/// The angles between which an arc goes, in 65536ths of a degree.
+#[derive(Clone, Copy)]
+pub(crate) struct Sweep {
+    pub(crate) from: Scaled,
+    pub(crate) to: Scaled,
+}
+
+/// What an arc is measured by.
+#[derive(Clone, Copy)]
+pub(crate) struct ArcMeasures {
+    pub(crate) measures: Measures,
+    pub(crate) sweep: Sweep,
+}
+
+/// The angles and radii of an arc as a text in parentheses has them.
+#[derive(Clone, Copy)]
+pub(crate) struct ArcText {
+    pub(crate) sweep: Sweep,
+    pub(crate) radii: Radii,
+}
+
+impl Measures {
+    /// Those where and how is drawn so.
+    pub(crate) fn of(graphics: &GraphicsState) -> Measures
+        ensures { result ≡ spec.measures_of graphics.now }
+    {
+        let GraphicsState { matrix, look } = graphics;
+        Measures {
+            matrix: *matrix,
+            x: look.x,
+            y: look.y,
+            radii: Radii {
+                x: look.x_radius,
+                y: look.y_radius,
+            },
+            start_angle: look.start_angle,
+            end_angle: look.end_angle,
+            delta_angle: look.delta_angle,
+            xstep: look.xstep,
+            ystep: look.ystep,
+        }
+    }
+
+    /// The length of a number across, where one without a unit counts x vectors.
+    pub(crate) fn across(&self, value: Value, at: u32) -> Result<Scaled, Fault>
+        ensures { result ≡ spec.across self.now at value }
+    {
+        length_along(self.x, value, at)
+    }
+
+    /// The same upward, with y vectors.
+    pub(crate) fn upward(&self, value: Value, at: u32) -> Result<Scaled, Fault>
+        ensures { result ≡ spec.upward self.now at value }
+    {
+        length_along(self.y, value, at)
+    }
+
+    /// The angles of an arc by keys: two of them tell the third.
+    #[tactic(auto, unfolding(crate::specs::Measures::sweep_of))]
+    pub(crate) fn sweep(&self, at: u32) -> Result<Sweep, Fault>
+        ensures { result ≡ spec.sweep_of at self.now.start_angle self.now.end_angle self.now.delta_angle }
+    {
+        match self.start_angle {
+            Some(from) => match self.end_angle {
+                Some(to) => Ok(Sweep { from, to }),
+                None => match self.delta_angle {
+                    Some(delta) => Ok(Sweep {
+                        from,
+                        to: placed(at, add(from, delta))?,
+                    }),
+                    None => Err(Fault::new(Code::PathSyntax, at)),
+                },
+            },
+            None => match self.end_angle {
+                Some(to) => match self.delta_angle {
+                    Some(delta) => Ok(Sweep {
+                        from: placed(at, sub(to, delta))?,
+                        to,
+                    }),
+                    None => Err(Fault::new(Code::PathSyntax, at)),
+                },
+                None => Err(Fault::new(Code::PathSyntax, at)),
+            },
+        }
+    }
+}
+
+/// The value of an expression.
+#[tactic(auto, using(tk_look::proofs::Evaluations::answer_is))]
+fn value_in(text: &[Tok], font: FontUnits, at: u32) -> Result<Value, Fault>
+    ensures { result ≡ evaluated font at text.now }
+{
+    eval(text, font, at)
+}
+
+/// The radii of a text, `r and s` or `r`, which is both; `at` is the place of an empty one.
+#[tactic(auto, unfolding(crate::specs::Measures::radii_in))]
+pub(crate) fn radii_in(text: &[Tok], font: FontUnits, at: u32) -> Result<Radii, Fault>
+    ensures { result ≡ spec.radii_in evaluated font at text.now }
+{
+    match first_outside(text, Sought::And) {
+        Some((front, rest)) => {
+            let x = value_in(front, font, at)?;
+            let y = value_in(rest.get(3..).unwrap_or(&[]), font, at)?;
+            Ok(Radii { x, y })
+        }
+        None => {
+            let radius = &value_in(text, font, at)?;
+            Ok(Radii {
+                x: *radius,
+                y: *radius,
+            })
+        }
+    }
+}
+
+/// The angles and radii of `a:b:r` or `a:b:r and s`, whose `(` stands at `at`.
+#[tactic(auto, unfolding(crate::specs::Measures::arc_in))]
+pub(crate) fn arc_in(text: &[Tok], font: FontUnits, at: u32) -> Result<ArcText, Fault>
+    ensures { result ≡ spec.arc_in evaluated font at text.now }
+{
+    let (first, rest) = before_char(text, ':').ok_or(Fault::new(Code::PathSyntax, at))?;
+    let (second, rest) = before_char(rest, ':').ok_or(Fault::new(Code::PathSyntax, at))?;
+    let from = value_in(first, font, at)?.number;
+    let to = value_in(second, font, at)?.number;
+    Ok(ArcText {
+        sweep: Sweep { from, to },
+        radii: radii_in(rest, font, at)?,
+    })
+}
+
+impl Drawer {
+    /// The measures of an operation that may have options of its own, where the first token behind its word was taken.
+    #[tactic(auto, unfolding(crate::specs::Measures::measures_from))]
+    pub(crate) fn measures_from(
+        &mut self,
+        input: &mut Input,
+        first: Option<Tok>,
+    ) -> Result<Measures, Refusal>
+        ensures gives { (path : ACurrentPath) → Gives (λ measures. reached_at measures self.new path input.new) result
+            (spec.measures_from (given_to self.old) (lookahead_of first self.old path input.old)) }
+        ensures kept { OnOk result (KeepsDrawn self.old self.new) }
+    {
+        if is_there(first, '[') {
+            let at = input.place(first);
+            return self.inner_measures(input, at);
+        }
+        self.put_back(input, first)?;
+        Ok(Measures::of(self.state.graphics()))
+    }
+
+    /// The measures at the end of options in a level of their own, whose `[` was taken at that place.
+    #[tactic(auto, unfolding(crate::specs::Measures::inner_measures, crate::specs::Keys::option_list), using(tk_expr::proofs::Runs::evaluated_is_the_answer))]
+    pub(crate) fn inner_measures(&mut self, input: &mut Input, at: u32) -> Result<Measures, Refusal>
+        ensures gives { (path : ACurrentPath) → Gives (λ measures. reached_at measures self.new path input.new) result
+            (spec.inner_measures (given_to self.old) at (configuration_of self.old path input.old)) }
+        ensures kept { OnOk result (KeepsDrawn self.old self.new) }
+    {
+        let list = option_list(input, at)?;
+        self.state.open(at)?;
+        self.run_keys(&list, at)?;
+        let measures = Measures::of(self.state.graphics());
+        self.state.close_uncounted();
+        Ok(measures)
+    }
+}

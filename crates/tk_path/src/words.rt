@@ -1,0 +1,352 @@
+//! The words and signs of paths.
+
+ghost use Rattle.std.specs.Prelude.{◌≡◌, ◌∷◌, Some, OnOk, is_some, option_map, slice_get};
+ghost use Rattle.tk_token.specs.Refusals.{Gives};
+ghost use Rattle.tk_path.specs.CurrentPaths.{CurrentPath as ACurrentPath};
+ghost use Rattle.tk_path.specs.Views.{given_to, configuration_of, lookahead_of, reached_at, OnlyPays};
+ghost use Rattle.tk_path.specs.Words as spec;
+
+use crate::drawer::{Drawer, misfit};
+use tk_expand::{Input, is_there};
+use tk_token::{Code, Kind, Refusal, Tok};
+
+/// A word or a sign of a path.
+#[derive(Clone, Copy)]
+pub(crate) enum PathWord {
+    /// `--`
+    Line,
+    /// `-|`
+    AcrossThenUp,
+    /// `|-`
+    UpThenAcross,
+    /// `..`
+    Dots,
+    To,
+    Rectangle,
+    /// `circle` or `ellipse`
+    Circle,
+    Arc,
+    Grid,
+    /// `node` or `coordinate`
+    Node,
+    Foreach,
+    Cycle,
+    And,
+}
+
+/// The words that may stand at a place of a path.
+#[derive(Clone, Copy)]
+pub(crate) enum Words {
+    /// What operations begin with.
+    Operations,
+    /// What may stand before the coordinate to which an operation goes.
+    Nodes,
+    /// What a line, corner or curve may go to beside a coordinate.
+    Targets,
+    /// What stands behind the first control point of a curve.
+    Controls,
+}
+
+/// What is left of a word behind its first two letters, and the word.
+type Row = (&'static [u8], PathWord);
+
+/// The operation that begins with those two letters.
+fn operation(first: char, second: char) -> Option<Row>
+    ensures { option_map (λ row. (row.0.now, row.1)) result
+        ≡ slice_get (spec.going_on second (spec.going_on first spec.operation_words)) 0 }
+{
+    match first {
+        '-' => match second {
+            '-' => Some((b"", PathWord::Line)),
+            '|' => Some((b"", PathWord::AcrossThenUp)),
+            _ => None,
+        },
+        '|' => match second {
+            '-' => Some((b"", PathWord::UpThenAcross)),
+            _ => None,
+        },
+        '.' => match second {
+            '.' => Some((b"", PathWord::Dots)),
+            _ => None,
+        },
+        't' => match second {
+            'o' => Some((b"", PathWord::To)),
+            _ => None,
+        },
+        'r' => match second {
+            'e' => Some((b"ctangle", PathWord::Rectangle)),
+            _ => None,
+        },
+        'c' => match second {
+            'i' => Some((b"rcle", PathWord::Circle)),
+            'o' => Some((b"ordinate", PathWord::Node)),
+            _ => None,
+        },
+        'e' => match second {
+            'l' => Some((b"lipse", PathWord::Circle)),
+            _ => None,
+        },
+        'a' => match second {
+            'r' => Some((b"c", PathWord::Arc)),
+            _ => None,
+        },
+        'g' => match second {
+            'r' => Some((b"id", PathWord::Grid)),
+            _ => None,
+        },
+        'n' => match second {
+            'o' => Some((b"de", PathWord::Node)),
+            _ => None,
+        },
+        'f' => match second {
+            'o' => Some((b"reach", PathWord::Foreach)),
+            _ => None,
+        },
+        _ => None,
+    }
+}
+
+/// The node that begins with those two letters.
+fn node(first: char, second: char) -> Option<Row>
+    ensures { option_map (λ row. (row.0.now, row.1)) result
+        ≡ slice_get (spec.going_on second (spec.going_on first spec.node_words)) 0 }
+{
+    match first {
+        'n' => match second {
+            'o' => Some((b"de", PathWord::Node)),
+            _ => None,
+        },
+        'c' => match second {
+            'o' => Some((b"ordinate", PathWord::Node)),
+            _ => None,
+        },
+        _ => None,
+    }
+}
+
+/// The target that begins with those two letters.
+fn target(first: char, second: char) -> Option<Row>
+    ensures { option_map (λ row. (row.0.now, row.1)) result
+        ≡ slice_get (spec.going_on second (spec.going_on first spec.target_words)) 0 }
+{
+    match first {
+        'n' => match second {
+            'o' => Some((b"de", PathWord::Node)),
+            _ => None,
+        },
+        'c' => match second {
+            'y' => Some((b"cle", PathWord::Cycle)),
+            'o' => Some((b"ordinate", PathWord::Node)),
+            _ => None,
+        },
+        _ => None,
+    }
+}
+
+/// What begins with those two letters behind a control point.
+fn control(first: char, second: char) -> Option<Row>
+    ensures { option_map (λ row. (row.0.now, row.1)) result
+        ≡ slice_get (spec.going_on second (spec.going_on first spec.control_words)) 0 }
+{
+    match first {
+        'a' => match second {
+            'n' => Some((b"d", PathWord::And)),
+            _ => None,
+        },
+        '.' => match second {
+            '.' => Some((b"", PathWord::Dots)),
+            _ => None,
+        },
+        _ => None,
+    }
+}
+
+/// Whether an operation begins with that letter.
+fn begins_operation(first: char) -> bool
+    ensures { result ≡ is_some (slice_get (spec.going_on first spec.operation_words) 0) }
+{
+    match first {
+        '-' | '|' | '.' | 't' | 'r' | 'c' | 'e' | 'a' | 'g' | 'n' | 'f' => true,
+        _ => false,
+    }
+}
+
+/// Whether a node begins with that letter.
+fn begins_node(first: char) -> bool
+    ensures { result ≡ is_some (slice_get (spec.going_on first spec.node_words) 0) }
+{
+    match first {
+        'n' | 'c' => true,
+        _ => false,
+    }
+}
+
+/// Whether a target begins with that letter.
+fn begins_target(first: char) -> bool
+    ensures { result ≡ is_some (slice_get (spec.going_on first spec.target_words) 0) }
+{
+    match first {
+        'c' | 'n' => true,
+        _ => false,
+    }
+}
+
+/// Whether what stands behind a control point begins with that letter.
+fn begins_control(first: char) -> bool
+    ensures { result ≡ is_some (slice_get (spec.going_on first spec.control_words) 0) }
+{
+    match first {
+        'a' | '.' => true,
+        _ => false,
+    }
+}
+
+impl Words {
+    /// Whether one of them begins with that letter.
+    fn begin(self, first: char) -> bool
+        ensures { result ≡ is_some (slice_get (spec.going_on first (spec.words_of self)) 0) }
+    {
+        match self {
+            Words::Operations => begins_operation(first),
+            Words::Nodes => begins_node(first),
+            Words::Targets => begins_target(first),
+            Words::Controls => begins_control(first),
+        }
+    }
+
+    /// The one that begins with those two letters.
+    fn row(self, first: char, second: char) -> Option<Row>
+        ensures { option_map (λ row. (row.0.now, row.1)) result
+            ≡ slice_get (spec.going_on second (spec.going_on first (spec.words_of self))) 0 }
+    {
+        match self {
+            Words::Operations => operation(first, second),
+            Words::Nodes => node(first, second),
+            Words::Targets => target(first, second),
+            Words::Controls => control(first, second),
+        }
+    }
+}
+
+/// The letter that a token is.
+fn letter(token: Option<Tok>) -> Option<char>
+    ensures { result ≡ spec.letter_of token }
+{
+    match token {
+        Some(tok) => match tok.kind {
+            Kind::Char(c) => Some(c),
+            _ => None,
+        },
+        None => None,
+    }
+}
+
+impl Drawer {
+    /// Reads a letter of a word, which begins at that place.
+    #[tactic(auto, unfolding(crate::specs::Words::behind_letter))]
+    fn expect_letter(&mut self, input: &mut Input, at: u32, letter: char) -> Result<(), Refusal>
+        ensures gives { (path : ACurrentPath) → Gives (λ _. configuration_of self.new path input.new) result
+            (spec.behind_letter (given_to self.old) at letter (configuration_of self.old path input.old)) }
+        ensures pays { OnOk result (OnlyPays self.old self.new) }
+    {
+        let next = self.token(input)?;
+        if is_there(next, letter) {
+            return Ok(());
+        }
+        Err(misfit(at))
+    }
+
+    /// Reads letters of a word, which begins at that place.
+    #[tactic(auto, unfolding(crate::specs::Words::behind_letters))]
+    fn expect_letters(&mut self, input: &mut Input, at: u32, letters: &[u8]) -> Result<(), Refusal>
+        ensures gives { (path : ACurrentPath) → Gives (λ _. configuration_of self.new path input.new) result
+            (spec.behind_letters (given_to self.old) at letters.now (configuration_of self.old path input.old)) }
+        ensures pays { OnOk result (OnlyPays self.old self.new) }
+    {
+        match letters.split_first() {
+            Some((letter, rest)) => {
+                self.expect_letter(input, at, char::from(*letter))?;
+                self.expect_letters(input, at, rest)
+            }
+            None => Ok(()),
+        }
+    }
+
+    /// Reads a word that begins with a token which was taken.
+    #[tactic(auto, unfolding(crate::specs::Words::word_from))]
+    pub(crate) fn word_from(
+        &mut self,
+        input: &mut Input,
+        words: Words,
+        first: Option<Tok>,
+    ) -> Result<PathWord, Refusal>
+        ensures gives { (path : ACurrentPath) → Gives (λ word. reached_at word self.new path input.new) result
+            (spec.word_from (given_to self.old) words (lookahead_of first self.old path input.old)) }
+        ensures pays { OnOk result (OnlyPays self.old self.new) }
+    {
+        let at = input.place(first);
+        match letter(first) {
+            Some(first) => self.rest_of_word(input, words, at, first),
+            None => Err(misfit(at)),
+        }
+    }
+
+    /// Reads the rest of a word, which begins at that place with a letter that was taken.
+    #[tactic(auto, unfolding(crate::specs::Words::rest_of_word))]
+    fn rest_of_word(
+        &mut self,
+        input: &mut Input,
+        words: Words,
+        at: u32,
+        first: char,
+    ) -> Result<PathWord, Refusal>
+        ensures gives { (path : ACurrentPath) → Gives (λ word. reached_at word self.new path input.new) result
+            (spec.rest_of_word (given_to self.old) at (spec.going_on first (spec.words_of words)) (configuration_of self.old path input.old)) }
+        ensures pays { OnOk result (OnlyPays self.old self.new) }
+    {
+        if !words.begin(first) {
+            return Err(misfit(at));
+        }
+        let Some(second) = letter(self.token(input)?) else {
+            return Err(misfit(at));
+        };
+        let Some((letters, word)) = words.row(first, second) else {
+            return Err(misfit(at));
+        };
+        self.expect_letters(input, at, letters)?;
+        Ok(word)
+    }
+
+    /// Reads the word that has to be next, with the Spaces before it.
+    #[tactic(auto, unfolding(crate::specs::Words::word_ahead))]
+    pub(crate) fn word_ahead(
+        &mut self,
+        input: &mut Input,
+        words: Words,
+    ) -> Result<PathWord, Refusal>
+        ensures gives { (path : ACurrentPath) → Gives (λ word. reached_at word self.new path input.new) result
+            (spec.word_ahead (given_to self.old) words (configuration_of self.old path input.old)) }
+        ensures pays { OnOk result (OnlyPays self.old self.new) }
+    {
+        let first = self.ahead(input)?;
+        self.word_from(input, words, first)
+    }
+
+    /// Reads a word that has to be next, which begins with that letter and goes on with those.
+    #[tactic(auto, unfolding(crate::specs::Words::behind_word, crate::specs::Configurations::must_be))]
+    pub(crate) fn expect_word(
+        &mut self,
+        input: &mut Input,
+        first: char,
+        letters: &[u8],
+    ) -> Result<(), Refusal>
+        ensures gives { (path : ACurrentPath) → Gives (λ _. configuration_of self.new path input.new) result
+            (spec.behind_word (given_to self.old) (first ∷ letters.now) (configuration_of self.old path input.old)) }
+        ensures pays { OnOk result (OnlyPays self.old self.new) }
+    {
+        let token = self.ahead(input)?;
+        input.expect(Code::PathSyntax, token, first)?;
+        let at = input.place(token);
+        self.expect_letters(input, at, letters)
+    }
+}

@@ -1,5 +1,0 @@
-use Rattle.std.proofs.Common.{rules}
-use Rattle.tk_picture.proofs.drawer.Drawer.draw.Goals as goal
-
-pub returns-clause-gives : goal.returns-clause-gives
-returns-clause-gives c opener = search rules

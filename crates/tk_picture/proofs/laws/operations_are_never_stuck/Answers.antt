@@ -1,5 +1,0 @@
-use Rattle.tk_picture.proofs.Unbounded.{operations_stuck}
-use Rattle.tk_picture.proofs.laws.operations_are_never_stuck.Goals as goal
-
-pub returns : goal.returns
-returns c = operations_stuck

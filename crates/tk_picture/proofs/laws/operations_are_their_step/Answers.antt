@@ -1,5 +1,0 @@
-use Rattle.tk_picture.proofs.Unbounded.{operations_are}
-use Rattle.tk_picture.proofs.laws.operations_are_their_step.Goals as goal
-
-pub returns : goal.returns
-returns c = operations_are
