@@ -80,7 +80,7 @@ fn a_failure_outside_has_its_status(rt: HostRuntime) -> Result<(), Fail> {
             (slow, slow, slow),
             1,
             0,
-            "-:2:14: Unbuilt\n",
+            "-:2:13: Unbuilt\n",
         ),
         (
             "p.tex",
