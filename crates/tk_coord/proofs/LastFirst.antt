@@ -5,13 +5,14 @@ use Rattle.tk_token.specs.declared.Fault.{Fault}
 use Rattle.tk_token.specs.Answers.{Answer, ◌>>=◌}
 use Rattle.tk_affine.specs.declared.Matrix.{Matrix}
 use Rattle.tk_coord.specs.declared.corners.CornerStart.{CornerStart}
-use Rattle.tk_coord.specs.Coordinates.{placed_point, corner_between}
+use Rattle.tk_look.specs.Graphics.{answer_at}
+use Rattle.tk_coord.specs.Coordinates.{corner_between}
 use Rattle.tk_coord.specs.Starts.{corners_from}
 
 module _ (m : Matrix) (at : ℕ) where
   -- the corner from one point to the one that is found behind it
   abbrev pub corner_from : CornerStart → Answer Point → Answer Point
-  corner_from s found = found >>= λ q. placed_point at (corner_between s.sign m s.point q)
+  corner_from s found = found >>= λ q. answer_at at (corner_between s.sign m s.point q)
 
   -- the last point has the first corner
   pub last_first : (starts : List CornerStart) (s : CornerStart) (found : Answer Point)

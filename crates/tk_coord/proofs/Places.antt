@@ -26,7 +26,8 @@ use Rattle.tk_expr.proofs.Evaluations.{is_evaluated}
 use Rattle.tk_expr.proofs.Places.{evaluated_at, paired_by_at, vector_at, own_place, all_places}
 use Rattle.tk_look.specs.declared.Look.{Look}
 use Rattle.tk_look.proofs.Places.{Fine, Within}
-use Rattle.tk_coord.specs.Coordinates.{placed_point, translated, point_in_numbers, sign_in_front, corner_between}
+use Rattle.tk_look.specs.Graphics.{answer_at}
+use Rattle.tk_coord.specs.Coordinates.{translated, point_in_numbers, sign_in_front, corner_between}
 use Rattle.tk_coord.specs.Coordinates.{point_by, lone_point, by_sign, point_step, absolute_point, relative_point, point_of}
 
 module _ (P : ℕ → Type 0) where
@@ -53,7 +54,7 @@ module _ (P : ℕ → Type 0) where
   -- ---- by the place of the `(`
 
   module _ (at : ℕ) (here : P at) where
-    placed_fine : (found : Result Point AffFault) → Fine P (placed_point at found)
+    placed_fine : (found : Result Point AffFault) → Fine P (answer_at at found)
     placed_fine (Ok p) = tt
     placed_fine (Err e) = here
 
@@ -105,7 +106,7 @@ module _ (P : ℕ → Type 0) where
           fine_then (paired ev font at text) _ (paired_fine text h) (λ found.
           fine_then (or_fault found Coordinate at) _ (found_fine found) (λ numbers.
           fine_then (vector_of look.x look.y at numbers) _ (vector_at look.x look.y at numbers P here) (λ v.
-          fine_then (placed_point at (vector_image matrix v)) _ (placed_fine (vector_image matrix v)) (λ by.
+          fine_then (answer_at at (vector_image matrix v)) _ (placed_fine (vector_image matrix v)) (λ by.
           placed_fine (translated from by))))))
 
       -- by any form

@@ -19,16 +19,11 @@ use Rattle.tk_expr.specs.declared.ValuePair.{ValuePair}
 use Rattle.tk_expr.specs.Evaluates.{Evaluation}
 use Rattle.tk_expr.specs.Pairs.{paired, vector_of}
 use Rattle.tk_look.specs.declared.Look.{Look}
-use Rattle.tk_look.specs.Graphics.{matrix_code}
+use Rattle.tk_look.specs.Graphics.{answer_at}
 use Rattle.tk_coord.specs.declared.corners.CornerSign.{CornerSign}
 use Rattle.tk_coord.specs.declared.corners.CornerSign.TheVariants.{HorizontalFirst, VerticalFirst}
 
 -- ---- points
-
--- a point, or its fault at a place
-abbrev pub placed_point : ℕ → Result Point AffFault → Answer Point
-placed_point at (Ok p) = Ok p
-placed_point at (Err e) = fault (matrix_code e) at
 
 -- a point that is moved by a vector
 abbrev pub translated : Point → Point → Result Point AffFault
@@ -38,7 +33,7 @@ translated p v = point_at (p.x +ℤ v.x) (p.y +ℤ v.y)
 abbrev pub point_in_numbers : Look → Matrix → ℕ → ValuePair → Answer Point
 point_in_numbers look matrix at numbers = do
   v ← vector_of look.x look.y at numbers
-  placed_point at (image matrix v)
+  answer_at at (image matrix v)
 
 -- what is wrong with a text without numbers: nothing stands there, or the name of a node, which isn't built
 abbrev pub code_without_numbers : List Tok → Code
@@ -79,7 +74,7 @@ module _ (ev : Evaluation) (font : FontUnits) (look : Look) (matrix : Matrix) (a
   by_sign point text (Some c) = do
     p ← lone_point (trimmed c.front)
     q ← point (drop 2 c.rest)
-    placed_point at (corner_between (sign_in_front c.rest) matrix p q)
+    answer_at at (corner_between (sign_in_front c.rest) matrix p q)
 
   -- the same, where signs are sought outside braces; this is one step, over the points of shorter texts
   abbrev pub point_step : (List Tok → Answer Point) → List Tok → Answer Point
@@ -97,8 +92,8 @@ module _ (ev : Evaluation) (font : FontUnits) (look : Look) (matrix : Matrix) (a
     found ← paired ev font at text
     numbers ← or_fault found Coordinate at
     v ← vector_of look.x look.y at numbers
-    by ← placed_point at (vector_image matrix v)
-    placed_point at (translated from by)
+    by ← answer_at at (vector_image matrix v)
+    answer_at at (translated from by)
 
   -- the point of a coordinate's text, which is relative where a point is given
   abbrev pub point_of : Option Point → List Tok → Answer Point

@@ -4,11 +4,12 @@ use Rattle.tk_item.specs.declared.Point.{Point}
 use Rattle.tk_token.specs.Answers.{Answer, ◌>>=◌}
 use Rattle.tk_affine.specs.declared.Matrix.{Matrix}
 use Rattle.tk_coord.specs.declared.corners.CornerStart.{CornerStart}
-use Rattle.tk_coord.specs.Coordinates.{placed_point, corner_between}
+use Rattle.tk_look.specs.Graphics.{answer_at}
+use Rattle.tk_coord.specs.Coordinates.{corner_between}
 
 -- the corners from all these points, from the last one, which leads to the point that is found behind them
 abbrev pub corners_from : Matrix → ℕ → List CornerStart → Answer Point → Answer Point
 corners_from m at [] found = found
 corners_from m at (s ∷ starts) found = do
   q ← corners_from m at starts found
-  placed_point at (corner_between s.sign m s.point q)
+  answer_at at (corner_between s.sign m s.point q)

@@ -3,10 +3,11 @@
 ghost use Rattle.std.specs.Prelude.{◌≡◌, Ok};
 ghost use Rattle.tk_coord.specs.Coordinates as spec;
 ghost use Rattle.tk_coord.specs.Starts.{corners_from};
+ghost use Rattle.tk_look.specs.Graphics.{answer_at};
 
-use tk_affine::{AffFault, Matrix, corner};
+use tk_affine::{Matrix, corner};
 use tk_item::Point;
-use tk_look::matrix_code;
+use tk_look::answer_at;
 use tk_token::{Fault, Tok, begins_pair};
 
 /// How a corner leads from one point to another.
@@ -29,16 +30,6 @@ pub(crate) fn sign_in_front(list: &[Tok]) -> CornerSign
     }
 }
 
-/// A point, or its fault at a place.
-pub(crate) fn placed_point(at: u32, found: Result<Point, AffFault>) -> Result<Point, Fault>
-    ensures { result ≡ spec.placed_point at found }
-{
-    match found {
-        Ok(point) => Ok(point),
-        Err(fault) => Err(Fault::new(matrix_code(fault), at)),
-    }
-}
-
 /// The corner on the way from `p` to `q`: that of `p -| q` has the y of `p` and the x of `q`, that of `p |- q` the x of
 /// `p` and the y of `q`, along the axes of the matrix (the PGF manual, section "Intersections of Perpendicular Lines").
 /// At `at` it is Singular where the axes lie on one line, else TooLarge where a number of the corner is out of range.
@@ -49,11 +40,11 @@ pub fn corner_between(
     q: Point,
     at: u32,
 ) -> Result<Point, Fault>
-    ensures gives { result ≡ spec.placed_point at (spec.corner_between sign matrix p q) }
+    ensures gives { result ≡ answer_at at (spec.corner_between sign matrix p q) }
 {
     match sign {
-        CornerSign::HorizontalFirst => placed_point(at, corner(matrix, p, q)),
-        CornerSign::VerticalFirst => placed_point(at, corner(matrix, q, p)),
+        CornerSign::HorizontalFirst => answer_at(corner(matrix, p, q), at),
+        CornerSign::VerticalFirst => answer_at(corner(matrix, q, p), at),
     }
 }
 

@@ -6,15 +6,16 @@ ghost use Rattle.tk_token.specs.Spaces.{trimmed};
 ghost use Rattle.tk_expr.specs.Evaluated.{evaluated};
 ghost use Rattle.tk_expr.specs.Evaluates.{Evaluation, IsEvaluation};
 ghost use Rattle.tk_expr.specs.Pairs.{paired};
+ghost use Rattle.tk_look.specs.Graphics.{answer_at};
 ghost use Rattle.tk_coord.specs.Coordinates as spec;
 
 use crate::Target;
-use crate::corners::{CornerStart, corners_from, placed_point, sign_in_front};
+use crate::corners::{CornerStart, corners_from, sign_in_front};
 use std::alloc::Global;
 use tk_affine::{Matrix, apply, apply_vector};
 use tk_expr::{FontUnits, ValuePair, pair, vector};
 use tk_item::Point;
-use tk_look::Look;
+use tk_look::{Look, answer_at};
 use tk_num::add;
 use tk_token::{Code, Fault, Refusal, Sought, Tok, first_outside, trimmed};
 
@@ -42,7 +43,7 @@ impl CoordinateSystem<'_> {
         ensures { result ≡ spec.point_in_numbers self.now.look.now self.now.matrix at numbers }
     {
         let v = vector(numbers, self.look.x, self.look.y, at)?;
-        placed_point(at, apply(self.matrix, v))
+        answer_at(apply(self.matrix, v), at)
     }
 
     /// The point of a text without a sign, which may have Spaces round it.
@@ -89,7 +90,7 @@ impl CoordinateSystem<'_> {
             return Err(Fault::new(Code::Coordinate, at));
         };
         let v = vector(numbers, self.look.x, self.look.y, at)?;
-        let by = placed_point(at, apply_vector(self.matrix, v))?;
+        let by = answer_at(apply_vector(self.matrix, v), at)?;
         translated(from, by, at)
     }
 
@@ -140,7 +141,7 @@ fn behind_sign(list: &[Tok]) -> &[Tok]
 
 /// A point that is moved by a vector.
 fn translated(point: Point, by: Point, at: u32) -> Result<Point, Fault>
-    ensures { result ≡ spec.placed_point at (spec.translated point by) }
+    ensures { result ≡ answer_at at (spec.translated point by) }
 {
     match (add(point.x, by.x), add(point.y, by.y)) {
         (Ok(x), Ok(y)) => Ok(Point { x, y }),

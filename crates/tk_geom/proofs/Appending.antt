@@ -5,7 +5,7 @@ use Rattle.std.proofs.lemmas.List.{append-nil}
 use Rattle.tk_item.specs.declared.Seg.{Seg}
 use Rattle.tk_affine.specs.declared.AffFault.{AffFault}
 use Rattle.tk_affine.specs.Steps.{◌>>=◌}
-use Rattle.tk_geom.specs.Pieces.{try_map, appended, Extends}
+use Rattle.tk_geom.specs.Pieces.{try_map, appended, Continues}
 
 -- ---- what is left of a range
 
@@ -56,10 +56,10 @@ fault_told first now whole rest fault told e = fault_of first whole fault (told 
 
 -- ---- what stays in front
 
-pub nothing_more : (old : List Seg) → Extends old old
+pub nothing_more : (old : List Seg) → Continues old old
 nothing_more old = ([], sym (append-nil old))
 
-pub and_more : (old now new : List Seg) (piece : Seg) → Extends old now → new ≡ now ++ piece ∷ [] → Extends old new
+pub and_more : (old now new : List Seg) (piece : Seg) → Continues old now → new ≡ now ++ piece ∷ [] → Continues old new
 and_more old now new piece before pushed = (
   before.0 ++ piece ∷ [],
   pushed ∙ ap (λ (all : List Seg). all ++ piece ∷ []) before.1 ∙ append_assoc old
@@ -67,5 +67,5 @@ and_more old now new piece before pushed = (
 )
 
 -- two lists further on
-pub goes_further : (old now new : List Seg) → Extends old now → Extends now new → Extends old new
+pub goes_further : (old now new : List Seg) → Continues old now → Continues now new → Continues old new
 goes_further old now new before after = (before.0 ++ after.0, after.1 ∙ ap (λ (all : List Seg). all ++ after.0) before.1 ∙ append_assoc old before.0 after.0)

@@ -7,7 +7,7 @@ use Rattle.tk_item.specs.declared.Point.{Point}
 use Rattle.tk_item.specs.declared.Seg.{Seg}
 use Rattle.tk_affine.specs.declared.AffFault.{AffFault}
 use Rattle.tk_affine.specs.declared.Matrix.{Matrix}
-use Rattle.tk_look.specs.Graphics.{matrix_code}
+use Rattle.tk_look.specs.Graphics.{answer_at}
 use Rattle.tk_geom.specs.GridLines.{GridLine, grid_lines, corners, line_pieces}
 
 -- pieces, and the units that were paid when they were drawn
@@ -28,11 +28,6 @@ abbrev pub grid_appended : List Seg → Answer Grid → Answer Grid
 grid_appended old answer = do
   grid ← answer
   Ok (grid_behind old grid)
-
--- what is found, or its fault at a place
-abbrev pub answer_at : {A : Type 0} → ℕ → Result A AffFault → Answer A
-answer_at at (Ok x) = Ok x
-answer_at at (Err e) = fault (matrix_code e) at
 
 -- a line pays a unit, and is then drawn
 abbrev pub line_drawn : Matrix → ℕ → ℕ → ℕ → GridLine → Answer Grid

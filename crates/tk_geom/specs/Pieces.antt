@@ -47,5 +47,5 @@ Appends old new (Ok done) pieces = appended old pieces ≡ Ok new
 Appends old new (Err fault) pieces = pieces ≡ Err fault
 
 -- the new list begins with the old one
-abbrev pub Extends : List Seg → List Seg → Type 0
-Extends old new = (more : List Seg) × (new ≡ old ++ more)
+abbrev pub Continues : List Seg → List Seg → Type 0
+Continues old new = (more : List Seg) × (new ≡ old ++ more)

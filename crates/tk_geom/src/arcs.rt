@@ -3,7 +3,7 @@
 ghost use Rattle.std.specs.Prelude.{◌≡◌, ◌≤◌, ◌*◌, ◌-ℤ◌, ◌*ℤ◌, int_div, pos, unsigned_abs, IfOk};
 ghost use Rattle.tk_num.specs.Angle.{degrees};
 ghost use Rattle.tk_geom.specs.Arcs as spec;
-ghost use Rattle.tk_geom.specs.Pieces.{difference_of, Appends, Extends};
+ghost use Rattle.tk_geom.specs.Pieces.{difference_of, Appends, Continues};
 
 use crate::lists::finished;
 use crate::numbers::portion;
@@ -104,7 +104,7 @@ impl Ellipse {
     ghost use Rattle.std.specs.Prelude.{◌≡◌, ◌≤◌, ◌*◌, ◌-ℤ◌, unsigned_abs, IfOk};
     ghost use Rattle.tk_num.specs.Angle.{degrees};
     ghost use Rattle.tk_geom.specs.Arcs as spec;
-    ghost use Rattle.tk_geom.specs.Pieces.{Appends, Extends};
+    ghost use Rattle.tk_geom.specs.Pieces.{Appends, Continues};
 
     /// The image of the vector from the centre to the point at an angle.
     #[tactic(auto, unfolding(crate::specs::Arcs::spoke))]
@@ -162,7 +162,7 @@ impl Ellipse {
         requires y { unsigned_abs centre.now.y ≤ 2147483646 }
         ensures gives { IfOk result (λ done. Appends segs.old segs.new done
             (spec.arc_round self.now.m centre.now a b self.now.rx self.now.ry count)) }
-        ensures kept { Extends segs.old segs.new }
+        ensures kept { Continues segs.old segs.new }
     {
         let k = control_ratio(a, b, count);
         for i in 0..count {
@@ -192,7 +192,7 @@ pub fn push_arc(
     ry: Scaled,
 ) -> Result<Result<(), AffFault>, AllocError>
     ensures gives { IfOk result (λ done. Appends segs.old segs.new done (spec.arc_pieces m c a b rx ry)) }
-    ensures kept { Extends segs.old segs.new }
+    ensures kept { Continues segs.old segs.new }
 {
     let count = piece_count(a, b);
     if count == 0 {

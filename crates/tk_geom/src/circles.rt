@@ -2,7 +2,7 @@
 
 ghost use Rattle.std.specs.Prelude.{◌≡◌, IfOk, OnErr};
 ghost use Rattle.tk_geom.specs.Circles as spec;
-ghost use Rattle.tk_geom.specs.Pieces.{Appends, Extends};
+ghost use Rattle.tk_geom.specs.Pieces.{Appends, Continues};
 
 use crate::lists::{finished, push_all};
 use crate::numbers::portion;
@@ -84,7 +84,7 @@ pub fn push_circle(
 ) -> Result<Result<(), AffFault>, AllocError>
     ensures gives { IfOk result (λ done. Appends segs.old segs.new done (spec.circle_pieces m c rx ry)) }
     ensures fault { IfOk result (λ done. OnErr done (segs.new ≡ segs.old)) }
-    ensures kept { Extends segs.old segs.new }
+    ensures kept { Continues segs.old segs.new }
 {
     match circle_pieces(&m, &c, rx, ry) {
         Ok(pieces) => {

@@ -6,7 +6,7 @@ ghost use Rattle.tk_token.specs.Refusals.{Gives};
 ghost use Rattle.tk_geom.specs.GridLines as spec;
 ghost use Rattle.tk_geom.specs.Grids as grids;
 ghost use Rattle.tk_geom.specs.GridViews.{line_at, lines_of};
-ghost use Rattle.tk_geom.specs.Pieces.{Extends};
+ghost use Rattle.tk_geom.specs.Pieces.{Continues};
 
 use crate::lists::push_all;
 use crate::places::{Place, xy};
@@ -15,9 +15,9 @@ use std::marker::Model;
 use tk_affine::{AffFault, Matrix, apply, inverse_apply};
 use tk_expand::Units;
 use tk_item::{Point, Seg, Segs};
-use tk_look::matrix_code;
+use tk_look::answer_at;
 use tk_num::Scaled;
-use tk_token::{Code, Fault, Refusal};
+use tk_token::{Code, Refusal};
 
 /// Which way a line goes.
 #[derive(Clone, Copy)]
@@ -158,16 +158,6 @@ fn line_at(way: Way, ends: &Span, position: i64) -> GridLine
     }
 }
 
-/// What is found, or its fault at a place.
-fn answer_at<T>(found: Result<T, AffFault>, at: u32) -> Result<T, Fault>
-    ensures { result ≡ grids.answer_at at found }
-{
-    match found {
-        Ok(value) => Ok(value),
-        Err(fault) => Err(Fault::new(matrix_code(fault), at)),
-    }
-}
-
 /// The image of a point, which is to be in range itself.
 fn checked_image(m: &Matrix, place: Place) -> Result<Point, AffFault>
     ensures { result ≡ spec.checked_image m.now place }
@@ -196,7 +186,7 @@ fn push_line(
     ensures gives { Gives (λ _. grids.grid_of segs.new units.new.used) result
         (grids.grid_appended segs.old (grids.line_drawn m.now units.old.budget at units.old.used line)) }
     ensures budget { units.new.budget ≡ units.old.budget }
-    ensures kept { Extends segs.old segs.new }
+    ensures kept { Continues segs.old segs.new }
 {
     units.pay(1, at)?;
     let pieces = answer_at(line_pieces(m, line), at)?;
@@ -218,7 +208,7 @@ fn push_lines(
         (grids.grid_appended segs.old
         (grids.lines_drawn m.now units.old.budget at units.old.used (lines_of lines.now))) }
     ensures budget { units.new.budget ≡ units.old.budget }
-    ensures kept { Extends segs.old segs.new }
+    ensures kept { Continues segs.old segs.new }
 {
     for i in 0..lines.count {
         let line = line_at(lines.way, &lines.ends, multiple_at(lines, i));
@@ -244,7 +234,7 @@ fn push_between(
         (grids.grid_appended segs.old
         (grids.lines_drawn m.now units.old.budget at units.old.used (spec.grid_lines low.now high.now sx sy))) }
     ensures budget { units.new.budget ≡ units.old.budget }
-    ensures kept { Extends segs.old segs.new }
+    ensures kept { Continues segs.old segs.new }
 {
     let across = Span {
         low: low.x,
@@ -288,7 +278,7 @@ pub fn push_grid(
     ensures gives { Gives (λ _. grids.grid_of segs.new units.new.used) result
         (grids.grid_appended segs.old (grids.grid_pieces m p q sx sy units.old.budget at units.old.used)) }
     ensures budget { units.new.budget ≡ units.old.budget }
-    ensures kept { Extends segs.old segs.new }
+    ensures kept { Continues segs.old segs.new }
 {
     if sx.sp() <= 0 || sy.sp() <= 0 {
         return Err(Refusal::new(Code::Domain, at));

@@ -1,7 +1,7 @@
 //! Pieces that are put behind others.
 
 ghost use Rattle.std.specs.Prelude.{◌≡◌, ◌++◌, [], OnOk, Ok, MatchResult};
-ghost use Rattle.tk_geom.specs.Pieces.{Extends};
+ghost use Rattle.tk_geom.specs.Pieces.{Continues};
 
 use std::alloc::AllocError;
 use tk_affine::AffFault;
@@ -10,7 +10,7 @@ use tk_item::{Seg, Segs};
 /// Puts pieces at the end.
 pub(crate) fn push_all(segs: &mut Segs, pieces: &[Seg]) -> Result<(), AllocError>
     ensures ok { OnOk result (segs.new ≡ segs.old ++ pieces.now) }
-    ensures kept { Extends segs.old segs.new }
+    ensures kept { Continues segs.old segs.new }
 {
     for piece in pieces {
         segs.push(*piece)?;

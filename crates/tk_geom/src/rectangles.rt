@@ -1,7 +1,7 @@
 //! Rectangles.
 
 ghost use Rattle.std.specs.Prelude.{◌≡◌, IfOk, OnErr};
-ghost use Rattle.tk_geom.specs.Pieces.{Appends, Extends};
+ghost use Rattle.tk_geom.specs.Pieces.{Appends, Continues};
 ghost use Rattle.tk_geom.specs.Rectangles as spec;
 
 use crate::lists::{finished, push_all};
@@ -37,7 +37,7 @@ pub fn push_rectangle(
 ) -> Result<Result<(), AffFault>, AllocError>
     ensures gives { IfOk result (λ done. Appends segs.old segs.new done (spec.rectangle_pieces m p q)) }
     ensures fault { IfOk result (λ done. OnErr done (segs.new ≡ segs.old)) }
-    ensures kept { Extends segs.old segs.new }
+    ensures kept { Continues segs.old segs.new }
 {
     match rectangle_pieces(&m, &p, &q) {
         Ok(pieces) => {

@@ -39,7 +39,7 @@ use Rattle.tk_look.specs.declared.Look.{Look}
 use Rattle.tk_look.specs.Applied.{paint_by, paint, with_name, shaped_or_unknown, coloured_or_shaped, by_own_name, shift_by, turn_around, matrix_step, side_length, position_value, set_look, transformed, native_applied}
 use Rattle.tk_look.specs.Colours.{colour_of}
 use Rattle.tk_look.specs.Dashes.{Dash, up_to_word, behind_word, dash_of, all_dashes, dash_length, dash_lengths, pattern_value}
-use Rattle.tk_look.specs.Graphics.{matrix_or_fault, graphics_by}
+use Rattle.tk_look.specs.Graphics.{answer_at, graphics_by}
 use Rattle.tk_look.specs.Values.{found_in, colour_in, before_closing, between_parentheses, value_there, word_value, colour_value, at_least, is_misfit, as_anchor, measure_value, number_value, number_from, anchor_by, anchor_value, vector_value}
 use Rattle.tk_look.specs.Words.{caps, joins, shapes, anchors}
 
@@ -192,7 +192,7 @@ module _ (P : ℕ → Type 0) where
     own_name_fine name None look = coloured_fine (colour_of name) name look
     own_name_fine name (Some list) look = here
 
-    matrix_fine : (r : Result Matrix AffFault) → Fine (matrix_or_fault at r)
+    matrix_fine : (r : Result Matrix AffFault) → Fine (answer_at at r)
     matrix_fine (Ok m) = tt
     matrix_fine (Err e) = here
 
@@ -309,4 +309,4 @@ module _ (P : ℕ → Type 0) where
       unfolding graphics_by
       graphics_fine key name value g h =
           fine_then (native_applied at ev font key name value g.look) _ (applied_fine key name value g.look h) (λ new.
-          fine_then (matrix_or_fault at (with_steps g.matrix new.steps)) _ (matrix_fine (with_steps g.matrix new.steps)) (λ matrix. tt))
+          fine_then (answer_at at (with_steps g.matrix new.steps)) _ (matrix_fine (with_steps g.matrix new.steps)) (λ matrix. tt))

@@ -28,15 +28,15 @@ abbrev pub matrix_code : AffFault → Code
 matrix_code faults.TooLarge = codes.TooLarge
 matrix_code faults.Singular = codes.Singular
 
--- a matrix, or its fault at a place
-abbrev pub matrix_or_fault : ℕ → Result Matrix AffFault → Answer Matrix
-matrix_or_fault at (Ok m) = Ok m
-matrix_or_fault at (Err e) = fault (matrix_code e) at
+-- what is found by matrices, or its fault at a place
+abbrev pub answer_at : {A : Type 0} → ℕ → Result A AffFault → Answer A
+answer_at at (Ok x) = Ok x
+answer_at at (Err e) = fault (matrix_code e) at
 
 -- What a native key makes of its value and of what was set so far: its steps come behind those of the matrix, one after
 -- another.
 unfoldable pub graphics_by : ℕ → Evaluation → FontUnits → Native → List ℕ → Option (List Tok) → GraphicsState → Answer GraphicsState
 graphics_by at ev font key name value g = do
   new ← native_applied at ev font key name value g.look
-  matrix ← matrix_or_fault at (with_steps g.matrix new.steps)
+  matrix ← answer_at at (with_steps g.matrix new.steps)
   Ok (record { matrix = matrix; look = new.look })

@@ -51,7 +51,7 @@ impl GraphicsState {
             (spec.graphics_by at evaluated font key name.now (option_copied value.entry) self.old) }
     {
         let steps = self.look.apply(alloc, key, name, value, font, at)?;
-        self.matrix = moved(self.matrix, &steps, at)?;
+        self.matrix = answer_at(with_steps(self.matrix, &steps), at)?;
         Ok(())
     }
 
@@ -74,8 +74,18 @@ impl GraphicsState {
     }
 }
 
+/// What is found by matrices, or its fault at a place.
+pub fn answer_at<T>(found: Result<T, AffFault>, at: u32) -> Result<T, Fault>
+    ensures { result ≡ spec.answer_at at found }
+{
+    match found {
+        Ok(value) => Ok(value),
+        Err(fault) => Err(Fault::new(matrix_code(fault), at)),
+    }
+}
+
 /// The code of a fault of matrices.
-pub fn matrix_code(fault: AffFault) -> Code
+fn matrix_code(fault: AffFault) -> Code
     ensures { result ≡ spec.matrix_code fault }
 {
     match fault {
@@ -95,14 +105,4 @@ fn with_steps(matrix: Matrix, steps: &Steps) -> Result<Matrix, AffFault>
         rest = tail;
     }
     Ok(moved)
-}
-
-/// The same with a fault at a place.
-fn moved(matrix: Matrix, steps: &Steps, at: u32) -> Result<Matrix, Fault>
-    ensures { result ≡ spec.matrix_or_fault at (with_steps matrix steps.now.items) }
-{
-    match with_steps(matrix, steps) {
-        Ok(moved) => Ok(moved),
-        Err(fault) => Err(Fault::new(matrix_code(fault), at)),
-    }
 }

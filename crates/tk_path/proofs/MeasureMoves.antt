@@ -26,7 +26,7 @@ use Rattle.tk_path.specs.declared.measures.Radii.{Radii}
 use Rattle.tk_path.specs.declared.measures.Sweep.{Sweep}
 use Rattle.tk_path.specs.Configurations.{Configuration, reached, Lookahead, place_ahead}
 use Rattle.tk_path.specs.Keys.{with_env, put_back, option_list, with_keys}
-use Rattle.tk_path.specs.Measures.{measures_of, inner_measures, measures_from, across, upward, radii_by, radii_in, angle_in, arc_in, sweep_of}
+use Rattle.tk_path.specs.Measures.{measures_of, inner_measures, measures_from, length_across, length_upward, radii_by, radii_in, angle_in, arc_in, sweep_of}
 use Rattle.tk_path.proofs.Moving.{At, Comes, Looks, comes_then, looked_then}
 use Rattle.tk_path.proofs.CoordinateMoves.{Reads, AnyValue}
 use Rattle.tk_path.proofs.KeyMoves.{keys_at, list_at, back_at}

@@ -15,10 +15,11 @@ use Rattle.tk_expand.specs.Unread.{unread}
 use Rattle.tk_expand.proofs.NextPlaces.{place_at}
 use Rattle.tk_expand.proofs.Places.{StandAt, Stands, StreamAt, full_at}
 use Rattle.tk_affine.specs.declared.AffFault.{AffFault}
+use Rattle.tk_look.specs.Graphics.{answer_at}
 use Rattle.tk_coord.specs.declared.corners.CornerSign.{CornerSign}
 use Rattle.tk_coord.specs.declared.corners.CornerSign.TheVariants.{HorizontalFirst, VerticalFirst}
-use Rattle.tk_coord.specs.Coordinates.{placed_point, corner_between}
-use Rattle.tk_geom.specs.Grids.{answer_at, Grid, grid_pieces}
+use Rattle.tk_coord.specs.Coordinates.{corner_between}
+use Rattle.tk_geom.specs.Grids.{Grid, grid_pieces}
 use Rattle.tk_path.proofs.GridPlaces.{grid_stands}
 use Rattle.tk_keys.specs.Given.{Given}
 use Rattle.tk_keys.proofs.DeedPlaces.{EvaluatesAt}
@@ -38,12 +39,12 @@ use Rattle.tk_path.specs.declared.words.PathWord.TheVariants as words
 use Rattle.tk_path.specs.declared.words.Words.TheVariants.{Controls}
 use Rattle.tk_path.specs.Configurations.{Configuration, Reached, reached, Lookahead, place_ahead, ahead_of}
 use Rattle.tk_path.specs.Coordinates.{Written, coordinate_from, coordinate_point}
-use Rattle.tk_path.specs.CurrentPaths.{CurrentPath, subpath_start, in_subpath, standing_at, closed, moved_to, current_point, circled, boxed, arced}
-use Rattle.tk_path.specs.Measures.{measures_of, inner_measures, measures_from, across, upward, radii_in, arc_in, sweep_of}
+use Rattle.tk_path.specs.CurrentPaths.{CurrentPath, subpath_start, in_subpath, standing_at, with_close, moved_to, current_point, circled, boxed, arced}
+use Rattle.tk_path.specs.Measures.{measures_of, inner_measures, measures_from, length_across, length_upward, radii_in, arc_in, sweep_of}
 use Rattle.tk_path.specs.Meshes.{Meshed, mesh_drawn}
 use Rattle.tk_path.specs.Operations.{Control, Known, From_end, Way, Straight, Cornered, Curved, with_following, control_point, way_drawn, way_to, goes, control_ahead, second_control, curve_behind, first_control, curve_way, curve, rectangle, text_behind, circle_with, circle_measures, circle, arc_with, arc_measures, arc, grid_to, grid_by, grid, to, operation}
 use Rattle.tk_path.specs.Targets.{with_current, origin_of, here, reference, Target, A_coordinate, The_start, goal_of, goal_ahead, target_ahead}
-use Rattle.tk_path.specs.Words.{word_ahead, behind_word}
+use Rattle.tk_path.specs.Words.{word_ahead, past_word}
 use Rattle.tk_path.proofs.Moving.{At, Comes, Advances, Looks, comes, comes_then, looked, looked_then, ahead_at, stays}
 use Rattle.tk_path.proofs.CoordinateMoves.{WrittenAt, Reads, Gains, AnyValue, ClosedAt, closed_at, behind_closed, coordinate_from_at, point_at}
 use Rattle.tk_path.proofs.MeasureMoves.{length_at, sweep_at, radii_at, arc_at, inner_at, measures_at}
@@ -76,7 +77,7 @@ module _ (P : ℕ → Type 0) (given : Given) (begin : P 0) (evaluates : Evaluat
   control_at end (Known p) c k h = (tt, stays P given c h)
   control_at end (From_end w) c k h = point_at P given evaluates end w c k h
 
-  corner_at : (at : ℕ) (found : Result Point AffFault) → P at → Stands P (λ (p : Point). Unit {0}) (placed_point at found)
+  corner_at : (at : ℕ) (found : Result Point AffFault) → P at → Stands P (λ (p : Point). Unit {0}) (answer_at at found)
   corner_at at (Ok p) h = tt
   corner_at at (Err e) h = h
 
@@ -84,12 +85,12 @@ module _ (P : ℕ → Type 0) (given : Given) (begin : P 0) (evaluates : Evaluat
   unfolding way_drawn
   drawn_at Straight end c k h = same_comes P given _ c c (stays P given c h)
   drawn_at (Cornered sign at) end c k h =
-      then_at P (λ (p : Point). Unit {0}) (To c) (placed_point at (corner_between sign c.env.graphics.matrix (here c) end)) _ (corner_at at _ k) (λ corner _. same_comes P given _ c c (stays P given c h))
+      then_at P (λ (p : Point). Unit {0}) (To c) (answer_at at (corner_between sign c.env.graphics.matrix (here c) end)) _ (corner_at at _ k) (λ corner _. same_comes P given _ c c (stays P given c h))
   drawn_at (Curved first second) end c k h =
       then_at P (Reads P given AnyValue c) (To c) (control_point given end second c) _ (control_at end second c k h) (λ control a. same_comes P given _ c control.behind a.1)
 
-  back_at : (way : Way) (c d : Configuration) → Comes P given c d → Comes P given c (with_current (closed d.picture.path) d)
-  back_at way c d a = same_comes P given (closed d.picture.path) c d a
+  back_at : (way : Way) (c d : Configuration) → Comes P given c d → Comes P given c (with_current (with_close d.picture.path) d)
+  back_at way c d a = same_comes P given (with_close d.picture.path) c d a
 
   way_at : (way : Way) (target : Target) (c : Configuration) → WayAt way → TargetAt P given target → At P given c → Stands P (To c) (way_to given way target c)
   unfolding way_to
@@ -127,7 +128,7 @@ module _ (P : ℕ → Type 0) (given : Given) (begin : P 0) (evaluates : Evaluat
   and_at p c h =
       then_at P (Reads P given (WrittenAt P given) c) (Reads P given WayAt c) (control_ahead given c) _ (ahead_control_at c h) (λ written a.
       then_at P (Reads P given ControlAt written.behind) (Reads P given WayAt c) (second_control given written.value written.value.sign written.behind) _ (second_at written.value written.value.sign written.behind a.0 a.1.at) (λ second b.
-      then_at P (To second.behind) (Reads P given WayAt c) (behind_word given (codes "..") second.behind) _ (behind_word_at P given (codes "..") second.behind b.1.at) (λ d e.
+      then_at P (To second.behind) (Reads P given WayAt c) (past_word given (codes "..") second.behind) _ (behind_word_at P given (codes "..") second.behind b.1.at) (λ d e.
       (b.0, comes_then P given c written.behind d a.1 (comes_then P given written.behind second.behind d b.1 e)))))
 
   behind_at : (p : Point) (word : PathWord) (c : Configuration) → At P given c → Stands P (Reads P given WayAt c) (curve_behind given p word c)
@@ -148,7 +149,7 @@ module _ (P : ℕ → Type 0) (given : Given) (begin : P 0) (evaluates : Evaluat
   first_at : (c : Configuration) → At P given c → Stands P (Reads P given AnyValue c) (first_control given c)
   unfolding first_control
   first_at c h =
-      then_at P (To c) (Reads P given AnyValue c) (behind_word given (codes "controls") c) _ (behind_word_at P given (codes "controls") c h) (λ d a.
+      then_at P (To c) (Reads P given AnyValue c) (past_word given (codes "controls") c) _ (behind_word_at P given (codes "controls") c h) (λ d a.
       then_at P (Reads P given (WrittenAt P given) d) (Reads P given AnyValue c) (control_ahead given d) _ (ahead_control_at d a.at) (λ written b.
       weaker_at P (Reads P given AnyValue written.behind) (Reads P given AnyValue c) (coordinate_point given (reference written.behind) written.value written.behind) (λ r e. (tt, comes_then P given c d r.behind a (comes_then P given d written.behind r.behind b.1 e.1))) (point_at P given evaluates (reference written.behind) written.value written.behind b.0 b.1.at)))
 
@@ -189,8 +190,8 @@ module _ (P : ℕ → Type 0) (given : Given) (begin : P 0) (evaluates : Evaluat
   circle_with_at : (at : ℕ) (m : Measures) (c : Configuration) → P at → At P given c → Stands P (To c) (circle_with at m c)
   unfolding circle_with
   circle_with_at at m c p h =
-      then_at P (λ (n : ℤ). Unit {0}) (To c) (across m at m.radii.x) _ (length_at P given m.x at m.radii.x p) (λ rx _.
-      then_at P (λ (n : ℤ). Unit {0}) (To c) (upward m at m.radii.y) _ (length_at P given m.y at m.radii.y p) (λ ry _.
+      then_at P (λ (n : ℤ). Unit {0}) (To c) (length_across m at m.radii.x) _ (length_at P given m.x at m.radii.x p) (λ rx _.
+      then_at P (λ (n : ℤ). Unit {0}) (To c) (length_upward m at m.radii.y) _ (length_at P given m.y at m.radii.y p) (λ ry _.
       then_at P (λ (path : CurrentPath). Unit {0}) (To c) (answer_at at (circled (origin_of c.env) m.matrix rx ry c.picture.path)) _ (found_path at _ p) (λ path _. same_comes P given path c c (stays P given c h))))
 
   circle_measures_at : (c : Configuration) (first : Lookahead) → Looks P given c first → Stands P (Reads P given AnyValue c) (circle_measures given first)
@@ -216,8 +217,8 @@ module _ (P : ℕ → Type 0) (given : Given) (begin : P 0) (evaluates : Evaluat
   unfolding arc_with
   arc_with_at at arc c p h =
       let m = arc.measures in
-      then_at P (λ (n : ℤ). Unit {0}) (To c) (across m at m.radii.x) _ (length_at P given m.x at m.radii.x p) (λ rx _.
-      then_at P (λ (n : ℤ). Unit {0}) (To c) (upward m at m.radii.y) _ (length_at P given m.y at m.radii.y p) (λ ry _.
+      then_at P (λ (n : ℤ). Unit {0}) (To c) (length_across m at m.radii.x) _ (length_at P given m.x at m.radii.x p) (λ rx _.
+      then_at P (λ (n : ℤ). Unit {0}) (To c) (length_upward m at m.radii.y) _ (length_at P given m.y at m.radii.y p) (λ ry _.
       then_at P (λ (path : CurrentPath). Unit {0}) (To c) (answer_at at (arced (origin_of c.env) m.matrix arc.sweep rx ry c.picture.path)) _ (found_path at _ p) (λ path _. same_comes P given path c c (stays P given c h))))
 
   arc_measures_at : (at : ℕ) (c : Configuration) (first : Lookahead) → P at → Looks P given c first → Stands P (Reads P given AnyValue c) (arc_measures given at first)
@@ -252,8 +253,8 @@ module _ (P : ℕ → Type 0) (given : Given) (begin : P 0) (evaluates : Evaluat
   grid_to_at : (at : ℕ) (m : Measures) (end : Goal) (c : Configuration) → P at → At P given c → Stands P (To c) (grid_to given.budget at m end c)
   unfolding grid_to
   grid_to_at at m end c p h =
-      then_at P (λ (n : ℤ). Unit {0}) (To c) (across m at m.xstep) _ (length_at P given m.x at m.xstep p) (λ xstep _.
-      then_at P (λ (n : ℤ). Unit {0}) (To c) (upward m at m.ystep) _ (length_at P given m.y at m.ystep p) (λ ystep _.
+      then_at P (λ (n : ℤ). Unit {0}) (To c) (length_across m at m.xstep) _ (length_at P given m.x at m.xstep p) (λ xstep _.
+      then_at P (λ (n : ℤ). Unit {0}) (To c) (length_upward m at m.ystep) _ (length_at P given m.y at m.ystep p) (λ ystep _.
       let mesh : Mesh = record { matrix = m.matrix; xstep = xstep; ystep = ystep } in
       then_at P (λ (drawn : Meshed). c.picture.units ≤ drawn.units) (To c) (mesh_drawn (origin_of c.env) mesh end given.budget at c.picture.units c.picture.path) _ (mesh_at (origin_of c.env) mesh end at c.picture.units c.picture.path p) (λ drawn k.
       record { fell = record { end = refl; units = k; work_falls = omega arith }; at = record { env = h.env; rest = h.rest; end = h.end } })))

@@ -12,7 +12,7 @@ use Rattle.tk_keys.proofs.Standing.{then_at, if_at, weaker_at, some_at}
 use Rattle.tk_path.specs.declared.words.PathWord.{PathWord}
 use Rattle.tk_path.specs.declared.words.Words.{Words}
 use Rattle.tk_path.specs.Configurations.{Configuration, Reached, Lookahead, lookahead, place_ahead, must_be, token_ahead, ahead_of}
-use Rattle.tk_path.specs.Words.{words_of, letter_of, going_on, behind_letter, behind_letters, rest_of_word, word_from, word_ahead, behind_word}
+use Rattle.tk_path.specs.Words.{word_table, letter_there, going_on, behind_letter, behind_letters, rest_of_word, word_from, word_ahead, past_word}
 use Rattle.tk_path.proofs.Moving.{At, Comes, Advances, Looks, comes, comes_then, advances_then, looked, must_at, ahead_at, token_at, stays, took_then, looked_then}
 use Rattle.tk_path.proofs.CoordinateMoves.{Reads, Gains, AnyValue}
 
@@ -35,7 +35,7 @@ module _ (P : ℕ → Type 0) (given : Given) where
   rest_at at [] c p h = p
   rest_at at (row ∷ rows) c p h =
       then_at P (Looks P given c) (Reads P given AnyValue c) (token_ahead given c) _ (token_at P given c h) (λ second k.
-      then_at P (λ (n : ℕ). Unit {0}) (Reads P given AnyValue c) (or_fault (letter_of second.token) PathSyntax at) _ (some_at P (letter_of second.token) PathSyntax at p) (λ letter _.
+      then_at P (λ (n : ℕ). Unit {0}) (Reads P given AnyValue c) (or_fault (letter_there second.token) PathSyntax at) _ (some_at P (letter_there second.token) PathSyntax at p) (λ letter _.
       then_at P (λ (r : List ℕ × PathWord). Unit {0}) (Reads P given AnyValue c) (or_fault (slice_get (going_on letter (row ∷ rows)) 0) PathSyntax at) _ (some_at P (slice_get (going_on letter (row ∷ rows)) 0) PathSyntax at p) (λ found _.
       then_at P (Comes P given second.behind) (Reads P given AnyValue c) (behind_letters given at found.0 second.behind) _ (letters_at at found.0 second.behind p k.at) (λ e a.
       (tt, looked_then P given c second e k a)))))
@@ -44,8 +44,8 @@ module _ (P : ℕ → Type 0) (given : Given) where
   unfolding word_from
   from_at kind c None d h = h.at.end
   from_at kind c (Some t) d h =
-      then_at P (λ (n : ℕ). Unit {0}) (Gains P given AnyValue c) (or_fault (letter_of (Some t)) PathSyntax t.at) _ (some_at P (letter_of (Some t)) PathSyntax t.at h.token) (λ letter _.
-      weaker_at P (Reads P given AnyValue d) (Gains P given AnyValue c) (rest_of_word given t.at (going_on letter (words_of kind)) d) (λ r a. (tt, took_then P given c t d r.behind h a.1)) (rest_at t.at (going_on letter (words_of kind)) d h.token h.at))
+      then_at P (λ (n : ℕ). Unit {0}) (Gains P given AnyValue c) (or_fault (letter_there (Some t)) PathSyntax t.at) _ (some_at P (letter_there (Some t)) PathSyntax t.at h.token) (λ letter _.
+      weaker_at P (Reads P given AnyValue d) (Gains P given AnyValue c) (rest_of_word given t.at (going_on letter (word_table kind)) d) (λ r a. (tt, took_then P given c t d r.behind h a.1)) (rest_at t.at (going_on letter (word_table kind)) d h.token h.at))
 
   pub word_from_at : (kind : Words) (c : Configuration) (first : Lookahead) → Looks P given c first → Stands P (Gains P given AnyValue c) (word_from given kind first)
   word_from_at kind c first h = from_at kind c first.token first.behind h
@@ -54,8 +54,8 @@ module _ (P : ℕ → Type 0) (given : Given) where
   unfolding word_ahead
   word_ahead_at kind c h = then_at P (Looks P given c) (Gains P given AnyValue c) (ahead_of given c) _ (ahead_at P given c h) (λ first k. word_from_at kind c first k)
 
-  pub behind_word_at : (word : List ℕ) (c : Configuration) → At P given c → Stands P (Comes P given c) (behind_word given word c)
-  unfolding behind_word
+  pub behind_word_at : (word : List ℕ) (c : Configuration) → At P given c → Stands P (Comes P given c) (past_word given word c)
+  unfolding past_word
   behind_word_at [] c h = stays P given c h
   behind_word_at (letter ∷ letters) c h =
       then_at P (Looks P given c) (Comes P given c) (ahead_of given c) _ (ahead_at P given c h) (λ first k.

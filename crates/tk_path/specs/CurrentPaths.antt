@@ -34,8 +34,8 @@ abbrev pub with_pieces : List Seg → CurrentPath → CurrentPath
 with_pieces segs path = record path { segs = path.segs ++ segs }
 
 -- the subpath that goes on is closed: the path stands where it began
-abbrev pub closed : CurrentPath → CurrentPath
-closed path = record { segs = path.segs ++ Close ∷ []; current = path.start; reference = path.start; start = None }
+abbrev pub with_close : CurrentPath → CurrentPath
+with_close path = record { segs = path.segs ++ Close ∷ []; current = path.start; reference = path.start; start = None }
 
 -- where a curve ends; the point stands for the end of another piece, or of none
 abbrev pub end_of_curve : Point → Option Seg → Point

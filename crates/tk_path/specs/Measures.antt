@@ -57,12 +57,12 @@ module _ (given : Given) where
 -- ---- lengths
 
 -- the length of a number across, where one without a unit counts x vectors
-abbrev pub across : Measures → ℕ → Value → Answer ℤ
-across m at value = length_along m.x at value
+abbrev pub length_across : Measures → ℕ → Value → Answer ℤ
+length_across m at value = length_along m.x at value
 
 -- the same upward, with y vectors
-abbrev pub upward : Measures → ℕ → Value → Answer ℤ
-upward m at value = length_along m.y at value
+abbrev pub length_upward : Measures → ℕ → Value → Answer ℤ
+length_upward m at value = length_along m.y at value
 
 -- ---- in parentheses
 

@@ -12,10 +12,10 @@ use Rattle.tk_token.specs.Kinds.{is_char}
 use Rattle.tk_expand.specs.Expand.{stream, full}
 use Rattle.tk_expand.specs.Reading.{is_there}
 use Rattle.tk_expand.specs.Unread.{unread}
+use Rattle.tk_look.specs.Graphics.{answer_at}
 use Rattle.tk_coord.specs.declared.corners.CornerSign.{CornerSign}
 use Rattle.tk_coord.specs.declared.corners.CornerSign.TheVariants.{HorizontalFirst, VerticalFirst}
-use Rattle.tk_coord.specs.Coordinates.{placed_point, corner_between}
-use Rattle.tk_geom.specs.Grids.{answer_at}
+use Rattle.tk_coord.specs.Coordinates.{corner_between}
 use Rattle.tk_keys.specs.Given.{Given}
 use Rattle.tk_path.specs.declared.measures.Measures.{Measures}
 use Rattle.tk_path.specs.declared.measures.ArcMeasures.{ArcMeasures}
@@ -28,13 +28,13 @@ use Rattle.tk_path.specs.declared.coordinate.Sign.{Sign}
 use Rattle.tk_path.specs.declared.coordinate.Sign.TheVariants as signs
 use Rattle.tk_path.specs.Configurations.{Configuration, with_stream, Reached, reached, Lookahead, place_ahead, must_be, ahead_of}
 use Rattle.tk_path.specs.Coordinates.{Written, coordinate_from, coordinate_point}
-use Rattle.tk_path.specs.CurrentPaths.{CurrentPath, subpath_start, in_subpath, standing_at, closed, moved_to, with_pieces, circled, boxed, arced}
+use Rattle.tk_path.specs.CurrentPaths.{CurrentPath, subpath_start, in_subpath, standing_at, with_close, moved_to, with_pieces, circled, boxed, arced}
 use Rattle.tk_path.specs.Keys.{put_back, with_list}
-use Rattle.tk_path.specs.Measures.{measures_of, inner_measures, measures_from, across, upward, radii_in, arc_in, sweep_of}
+use Rattle.tk_path.specs.Measures.{measures_of, inner_measures, measures_from, length_across, length_upward, radii_in, arc_in, sweep_of}
 use Rattle.tk_path.specs.Meshes.{mesh_drawn}
 use Rattle.tk_path.specs.Pictures.{with_units}
 use Rattle.tk_path.specs.Targets.{with_current, origin_of, here, reference, Target, A_coordinate, The_start, goal_of, goal_ahead, target_ahead}
-use Rattle.tk_path.specs.Words.{word_ahead, behind_word}
+use Rattle.tk_path.specs.Words.{word_ahead, past_word}
 
 -- ---- ways
 
@@ -57,24 +57,24 @@ with_following segs c = with_current (with_pieces segs (in_subpath (origin_of c.
 -- a circle or an ellipse round the current point, whose word stands at that place
 unfoldable pub circle_with : ℕ → Measures → Configuration → Answer Configuration
 circle_with at m c = do
-  rx ← across m at m.radii.x
-  ry ← upward m at m.radii.y
+  rx ← length_across m at m.radii.x
+  ry ← length_upward m at m.radii.y
   path ← answer_at at (circled (origin_of c.env) m.matrix rx ry c.picture.path)
   Ok (with_current path c)
 
 -- an arc that begins at the current point, whose word stands at that place
 unfoldable pub arc_with : ℕ → ArcMeasures → Configuration → Answer Configuration
 arc_with at arc c = do
-  rx ← across arc.measures at arc.measures.radii.x
-  ry ← upward arc.measures at arc.measures.radii.y
+  rx ← length_across arc.measures at arc.measures.radii.x
+  ry ← length_upward arc.measures at arc.measures.radii.y
   path ← answer_at at (arced (origin_of c.env) arc.measures.matrix arc.sweep rx ry c.picture.path)
   Ok (with_current path c)
 
 -- a grid from the current point to a goal, whose word stands at that place
 unfoldable pub grid_to : ℕ → ℕ → Measures → Goal → Configuration → Answer Configuration
 grid_to budget at m to c = do
-  xstep ← across m at m.xstep
-  ystep ← upward m at m.ystep
+  xstep ← length_across m at m.xstep
+  ystep ← length_upward m at m.ystep
   let mesh : Mesh = record { matrix = m.matrix; xstep = xstep; ystep = ystep }
   drawn ← mesh_drawn (origin_of c.env) mesh to budget at c.picture.units c.picture.path
   Ok (with_current drawn.path (record c { picture = with_units c.picture drawn.units }))
@@ -89,7 +89,7 @@ module _ (given : Given) where
   unfoldable pub way_drawn : Way → Point → Configuration → Answer Configuration
   way_drawn Straight end c = Ok (with_following (Line end ∷ []) c)
   way_drawn (Cornered sign at) end c = do
-    corner ← placed_point at (corner_between sign c.env.graphics.matrix (here c) end)
+    corner ← answer_at at (corner_between sign c.env.graphics.matrix (here c) end)
     Ok (with_following (Line corner ∷ Line end ∷ []) c)
   way_drawn (Curved first second) end c = do
     control ← control_point end second c
@@ -101,10 +101,10 @@ module _ (given : Given) where
     end ← goal_of given w c
     drawn ← way_drawn way end.value.point end.behind
     Ok (with_current (standing_at (origin_of c.env) end.value drawn.picture.path) drawn)
-  way_to Straight The_start c = Ok (with_current (closed (in_subpath (origin_of c.env) c.picture.path)) c)
+  way_to Straight The_start c = Ok (with_current (with_close (in_subpath (origin_of c.env) c.picture.path)) c)
   way_to way The_start c = do
     drawn ← way_drawn way (subpath_start (origin_of c.env) c.picture.path) c
-    Ok (with_current (closed drawn.picture.path) drawn)
+    Ok (with_current (with_close drawn.picture.path) drawn)
 
   -- a way to the target that is next
   unfoldable pub goes : Way → Configuration → Answer Configuration
@@ -131,14 +131,14 @@ module _ (given : Given) where
   curve_behind p words.And c = do
     written ← control_ahead c
     second ← second_control written.value written.value.sign written.behind
-    behind ← behind_word given (codes "..") second.behind
+    behind ← past_word given (codes "..") second.behind
     Ok (reached (Curved p second.value) behind)
   curve_behind p word c = Ok (reached (Curved p (Known p)) c)
 
   -- the first control point of a curve, whose first `..` was read
   unfoldable pub first_control : Configuration → Answer (Reached Point)
   first_control c = do
-    behind ← behind_word given (codes "controls") c
+    behind ← past_word given (codes "controls") c
     written ← control_ahead behind
     coordinate_point given (reference written.behind) written.value written.behind
 

@@ -48,18 +48,18 @@ abbrev pub control_words : List (List ℕ × PathWord)
 control_words = (codes "and", words.And) ∷ (codes "..", words.Dots) ∷ []
 
 -- the words of each kind
-abbrev pub words_of : Words → List (List ℕ × PathWord)
-words_of tables.Operations = operation_words
-words_of tables.Nodes = node_words
-words_of tables.Targets = target_words
-words_of tables.Controls = control_words
+abbrev pub word_table : Words → List (List ℕ × PathWord)
+word_table tables.Operations = operation_words
+word_table tables.Nodes = node_words
+word_table tables.Targets = target_words
+word_table tables.Controls = control_words
 
 -- ---- reading them
 
 -- the letter that a token is
-abbrev pub letter_of : Option Tok → Option ℕ
-letter_of None = None
-letter_of (Some t) = by t.kind
+abbrev pub letter_there : Option Tok → Option ℕ
+letter_there None = None
+letter_there (Some t) = by t.kind
   where
     by : Kind → Option ℕ
     by (Char c) = Some c
@@ -89,7 +89,7 @@ module _ (given : Given) (at : ℕ) where
   rest_of_word [] c = fault PathSyntax at
   rest_of_word (row ∷ rows) c = do
     second ← token_ahead given c
-    letter ← or_fault (letter_of second.token) PathSyntax at
+    letter ← or_fault (letter_there second.token) PathSyntax at
     found ← or_fault (slice_get (going_on letter (row ∷ rows)) 0) PathSyntax at
     behind ← behind_letters found.0 second.behind
     Ok (reached found.1 behind)
@@ -99,17 +99,17 @@ module _ (given : Given) where
   -- at this token.
   unfoldable pub word_from : Words → Lookahead → Answer (Reached PathWord)
   word_from kind first = do
-    letter ← or_fault (letter_of first.token) PathSyntax (place_ahead first)
-    rest_of_word given (place_ahead first) (going_on letter (words_of kind)) first.behind
+    letter ← or_fault (letter_there first.token) PathSyntax (place_ahead first)
+    rest_of_word given (place_ahead first) (going_on letter (word_table kind)) first.behind
 
   -- the word of a table that has to be next; Spaces before it are passed over
   unfoldable pub word_ahead : Words → Configuration → Answer (Reached PathWord)
   word_ahead kind c = ahead_of given c >>= word_from kind
 
   -- what is behind a word that has to be next; Spaces before it are passed over
-  unfoldable pub behind_word : List ℕ → Configuration → Answer Configuration
-  behind_word [] c = Ok c
-  behind_word (letter ∷ letters) c = do
+  unfoldable pub past_word : List ℕ → Configuration → Answer Configuration
+  past_word [] c = Ok c
+  past_word (letter ∷ letters) c = do
     first ← ahead_of given c
     inside ← must_be (is_char letter) first
     behind_letters given (place_ahead first) letters inside

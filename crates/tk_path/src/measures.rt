@@ -82,15 +82,15 @@ impl Measures {
     }
 
     /// The length of a number across, where one without a unit counts x vectors.
-    pub(crate) fn across(&self, value: Value, at: u32) -> Result<Scaled, Fault>
-        ensures { result ≡ spec.across self.now at value }
+    pub(crate) fn length_across(&self, value: Value, at: u32) -> Result<Scaled, Fault>
+        ensures { result ≡ spec.length_across self.now at value }
     {
         length_along(self.x, value, at)
     }
 
     /// The same upward, with y vectors.
-    pub(crate) fn upward(&self, value: Value, at: u32) -> Result<Scaled, Fault>
-        ensures { result ≡ spec.upward self.now at value }
+    pub(crate) fn length_upward(&self, value: Value, at: u32) -> Result<Scaled, Fault>
+        ensures { result ≡ spec.length_upward self.now at value }
     {
         length_along(self.y, value, at)
     }

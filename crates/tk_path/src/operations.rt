@@ -7,7 +7,7 @@ ghost use Rattle.tk_svg.specs.Fitting.{BeginsWithMove};
 ghost use Rattle.tk_path.specs.CurrentPaths.{CurrentPath as ACurrentPath};
 ghost use Rattle.tk_path.specs.Operations as spec;
 ghost use Rattle.tk_path.specs.Targets.{A_coordinate, The_start};
-ghost use Rattle.tk_path.specs.Words.{behind_word};
+ghost use Rattle.tk_path.specs.Words.{past_word};
 ghost use Rattle.tk_path.specs.Views.{given_to, configuration_of, lookahead_of, reached_at, written_of, target_of, control_of, way_of, OnlyPays, KeepsDrawn};
 
 use crate::coordinate::{Sign, Written};
@@ -238,7 +238,7 @@ impl Drawer {
     /// Reads `controls`, with the Spaces before it.
     fn expect_controls(&mut self, input: &mut Input) -> Result<(), Refusal>
         ensures gives { (path : ACurrentPath) → Gives (λ _. configuration_of self.new path input.new) result
-            (behind_word (given_to self.old) (codes "controls") (configuration_of self.old path input.old)) }
+            (past_word (given_to self.old) (codes "controls") (configuration_of self.old path input.old)) }
         ensures pays { OnOk result (OnlyPays self.old self.new) }
     {
         self.expect_word(input, 'c', b"ontrols")

@@ -3,7 +3,6 @@
 ghost use Rattle.std.specs.Prelude.{◌≡◌, OnOk};
 ghost use Rattle.tk_token.specs.Refusals.{Gives};
 ghost use Rattle.tk_expand.specs.Unread.{Unread};
-ghost use Rattle.tk_geom.specs.Grids as grids;
 ghost use Rattle.tk_path.specs.CurrentPaths.{CurrentPath as ACurrentPath};
 ghost use Rattle.tk_path.specs.Operations as spec;
 ghost use Rattle.tk_path.specs.Views.{given_to, configuration_of, lookahead_of, reached_at, OnlyPays, KeepsDrawn};
@@ -12,20 +11,9 @@ use crate::coordinate::written_text;
 use crate::drawer::{Drawer, misfit};
 use crate::measures::{ArcMeasures, ArcText, Measures, arc_in, radii_in};
 use crate::trace::{CurrentPath, Goal, Mesh};
-use tk_affine::AffFault;
 use tk_expand::{Input, is_there};
-use tk_look::matrix_code;
-use tk_token::{Fault, Refusal, Tok};
-
-/// What was found, or its fault at a place.
-fn answer_at(found: Result<(), AffFault>, at: u32) -> Result<(), Fault>
-    ensures { result ≡ grids.answer_at at found }
-{
-    match found {
-        Ok(()) => Ok(()),
-        Err(fault) => Err(Fault::new(matrix_code(fault), at)),
-    }
-}
+use tk_look::answer_at;
+use tk_token::{Refusal, Tok};
 
 impl Drawer {
     /// Draws a rectangle from the current point to the coordinate that is next; its word stands at that place.
@@ -112,8 +100,8 @@ impl Drawer {
         ensures { (rest : Unread) → Gives (λ _. configuration_of self.now path.new rest) result
             (spec.circle_with at measures (configuration_of self.now path.old rest)) }
     {
-        let rx = measures.across(measures.radii.x, at)?;
-        let ry = measures.upward(measures.radii.y, at)?;
+        let rx = measures.length_across(measures.radii.x, at)?;
+        let ry = measures.length_upward(measures.radii.y, at)?;
         let alloc = self.state.allocator();
         let done = path.circle(alloc, &self.origin(), measures.matrix, rx, ry)?;
         Ok(answer_at(done, at)?)
@@ -177,8 +165,8 @@ impl Drawer {
             (spec.arc_with at arc (configuration_of self.now path.old rest)) }
     {
         let measures = &arc.measures;
-        let rx = measures.across(measures.radii.x, at)?;
-        let ry = measures.upward(measures.radii.y, at)?;
+        let rx = measures.length_across(measures.radii.x, at)?;
+        let ry = measures.length_upward(measures.radii.y, at)?;
         let alloc = self.state.allocator();
         let done = path.arc(alloc, &self.origin(), measures.matrix, &arc.sweep, rx, ry)?;
         Ok(answer_at(done, at)?)
@@ -238,8 +226,8 @@ impl Drawer {
     {
         let mesh = Mesh {
             matrix: measures.matrix,
-            xstep: measures.across(measures.xstep, at)?,
-            ystep: measures.upward(measures.ystep, at)?,
+            xstep: measures.length_across(measures.xstep, at)?,
+            ystep: measures.length_upward(measures.ystep, at)?,
         };
         let alloc = self.state.allocator();
         let mut units = self.state.units();

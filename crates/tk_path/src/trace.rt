@@ -144,7 +144,7 @@ impl CurrentPath {
     /// Closes the subpath that goes on.
     pub(crate) fn close(&mut self) -> Result<(), AllocError>
         requires { BeginsWithMove self.old.segs }
-        ensures { OnOk result (self.new ≡ spec.closed self.old) }
+        ensures { OnOk result (self.new ≡ spec.with_close self.old) }
     {
         self.segs.push(Seg::Close)?;
         self.current = self.start;

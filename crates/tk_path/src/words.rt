@@ -204,7 +204,7 @@ fn begins_control(first: char) -> bool
 impl Words {
     /// Whether one of them begins with that letter.
     fn begin(self, first: char) -> bool
-        ensures { result ≡ is_some (slice_get (spec.going_on first (spec.words_of self)) 0) }
+        ensures { result ≡ is_some (slice_get (spec.going_on first (spec.word_table self)) 0) }
     {
         match self {
             Words::Operations => begins_operation(first),
@@ -217,7 +217,7 @@ impl Words {
     /// The one that begins with those two letters.
     fn row(self, first: char, second: char) -> Option<Row>
         ensures { option_map (λ row. (row.0.now, row.1)) result
-            ≡ slice_get (spec.going_on second (spec.going_on first (spec.words_of self))) 0 }
+            ≡ slice_get (spec.going_on second (spec.going_on first (spec.word_table self))) 0 }
     {
         match self {
             Words::Operations => operation(first, second),
@@ -230,7 +230,7 @@ impl Words {
 
 /// The letter that a token is.
 fn letter(token: Option<Tok>) -> Option<char>
-    ensures { result ≡ spec.letter_of token }
+    ensures { result ≡ spec.letter_there token }
 {
     match token {
         Some(tok) => match tok.kind {
@@ -301,7 +301,7 @@ impl Drawer {
         first: char,
     ) -> Result<PathWord, Refusal>
         ensures gives { (path : ACurrentPath) → Gives (λ word. reached_at word self.new path input.new) result
-            (spec.rest_of_word (given_to self.old) at (spec.going_on first (spec.words_of words)) (configuration_of self.old path input.old)) }
+            (spec.rest_of_word (given_to self.old) at (spec.going_on first (spec.word_table words)) (configuration_of self.old path input.old)) }
         ensures pays { OnOk result (OnlyPays self.old self.new) }
     {
         if !words.begin(first) {
@@ -333,7 +333,7 @@ impl Drawer {
     }
 
     /// Reads a word that has to be next, which begins with that letter and goes on with those.
-    #[tactic(auto, unfolding(crate::specs::Words::behind_word, crate::specs::Configurations::must_be))]
+    #[tactic(auto, unfolding(crate::specs::Words::past_word, crate::specs::Configurations::must_be))]
     pub(crate) fn expect_word(
         &mut self,
         input: &mut Input,
@@ -341,7 +341,7 @@ impl Drawer {
         letters: &[u8],
     ) -> Result<(), Refusal>
         ensures gives { (path : ACurrentPath) → Gives (λ _. configuration_of self.new path input.new) result
-            (spec.behind_word (given_to self.old) (first ∷ letters.now) (configuration_of self.old path input.old)) }
+            (spec.past_word (given_to self.old) (first ∷ letters.now) (configuration_of self.old path input.old)) }
         ensures pays { OnOk result (OnlyPays self.old self.new) }
     {
         let token = self.ahead(input)?;

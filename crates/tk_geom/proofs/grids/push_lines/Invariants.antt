@@ -2,7 +2,7 @@ use Rattle.std.proofs.Common.{◌≡◌, ◌-◌, pos, ◌+ℤ◌}
 use Rattle.tk_geom.specs.GridLines.{lines_at, rising}
 use Rattle.tk_geom.specs.GridViews.{line_at, lines_of}
 use Rattle.tk_geom.specs.Grids.{grid_appended, lines_drawn}
-use Rattle.tk_geom.specs.Pieces.{Extends}
+use Rattle.tk_geom.specs.Pieces.{Continues}
 use Rattle.tk_geom.proofs.grids.push_lines.Given as goal
 
 -- the lines that are left, behind what is there, come to what all lines come to
@@ -13,5 +13,5 @@ invariant-loop-i l = record {
       ≡ grid_appended l.segs (lines_drawn l.m l.initial.units.budget l.at l.units.used
       (lines_at (line_at l.lines.way l.lines.ends.low l.lines.ends.high) l.lines.step (rising (l.lines.first +ℤ pos l.i) (l.lines.count - l.i))));
   budget : l.units.budget ≡ l.initial.units.budget;
-  kept : Extends l.initial.segs l.segs;
+  kept : Continues l.initial.segs l.segs;
 }
