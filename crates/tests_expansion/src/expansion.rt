@@ -73,7 +73,7 @@ const EXPANDED: [(&str, u64, u64, &str); 30] = [
 
 /// A list, a call, what it gives, the units that it costs, and what it leaves. What stands before a `|` is a list that was
 /// put in front of the other. A fault stands at its token, or at 77, where the list runs out.
-const READ: [(&str, &str, &str, u64, &str); 71] = [
+const READ: [(&str, &str, &str, u64, &str); 66] = [
     ("ab", "first", "a", 0, "ab"),
     ("|ab", "first", "a", 0, "ab"),
     ("", "first", "none", 0, ""),
@@ -142,11 +142,6 @@ const READ: [(&str, &str, &str, u64, &str); 71] = [
     ("H_|_Ha", "solid", "a", 2, ""),
     ("_H_", "solid", "none", 1, ""),
     ("_F", "solid", "MacroArg 1", 0, ""),
-    ("Fx", "next-char (", "done", 4, "x)"),
-    ("_a", "next-char a", "Unbuilt 0", 0, "a"),
-    ("H", "next-char a", "Unbuilt 77", 1, ""),
-    ("aHb|c", "letters abc", "done", 1, ""),
-    ("aFb", "letters a(c", "Unbuilt 2", 4, ")"),
 ];
 
 /// Arguments, each with a `;` behind it, the body that they are put in, the budget, the units that are paid, and the text or
@@ -281,13 +276,6 @@ fn next_shown(alloc: Global, given: Result<Option<Tok>, Refusal>) -> Result<Stri
     }
 }
 
-fn done(alloc: Global, given: Result<(), Refusal>) -> Result<String, Fail> {
-    match given {
-        Ok(()) => Ok(String::from_str(alloc, "done")?),
-        Err(refusal) => refusal_shown(alloc, refusal),
-    }
-}
-
 fn met(alloc: Global, given: Result<(), Fault>) -> Result<String, Fail> {
     match given {
         Ok(()) => Ok(String::from_str(alloc, "done")?),
@@ -381,14 +369,6 @@ fn given(
     match name {
         "next" => next_shown(alloc, input.next(store, units)),
         "solid" => next_shown(alloc, input.next_solid(store, units)),
-        "next-char" => done(
-            alloc,
-            input.expect_next(Code::Unbuilt, first_of(text), store, units),
-        ),
-        "letters" => done(
-            alloc,
-            input.expect_letters(Code::Unbuilt, text.as_bytes(), store, units),
-        ),
         _ => taken(alloc, name, text, input),
     }
 }

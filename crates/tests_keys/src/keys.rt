@@ -51,10 +51,10 @@ fn reads(state: &mut State, input: &mut Input) -> Result<bool, Refusal> {
     // `\x` has a text of 2 tokens, and costs 3 units.
     let is_a = begins(state, input, 'a')?;
     let is_paid = state.used() == 3;
-    state.expect_next(input, Code::Unbuilt, 'b')?;
+    let is_b = begins(state, input, 'b')?;
     // `\y{-}` has one of 2 tokens too.
-    state.expect_letters(input, Code::Unbuilt, b"--cycle")?;
-    Ok(is_a && is_paid && state.used() == 6)
+    let are_signs = begins(state, input, '-')? && begins(state, input, '-')?;
+    Ok(is_a && is_paid && is_b && are_signs && state.used() == 6)
 }
 
 /// Takes a group and gives its contents.
@@ -64,9 +64,9 @@ fn contents(input: &mut Input) -> Result<Vec<Tok>, Refusal> {
 }
 
 /// Runs the key list that stands next: whether it ends with that default path and makes that key.
-fn sets_key(alloc: Global, state: &mut State, input: &mut Input) -> Result<bool, Refusal> {
+fn sets_key(state: &mut State, input: &mut Input) -> Result<bool, Refusal> {
     let list = contents(input)?;
-    let last = state.run_list(Dir::root(alloc), &list, 0)?;
+    let last = state.run_list(Dir::root(), &list, 0)?;
     Ok(last.as_str() == "/d" && state.store().get_key("/b/c").is_some())
 }
 
@@ -108,7 +108,7 @@ fn expands(alloc: Global, state: &mut State) -> Result<bool, Refusal> {
     Ok(expanded.len() == 3 && state.used() == 9)
 }
 
-/// What a run over `\def\x{ab}\newcommand\y[1]{#1#1}\x \y{-}cycle\z` does.
+/// What a run over `\def\x{ab}\newcommand\y[1]{#1#1}\x \y{-}\z` does.
 fn holds(alloc: Global, state: &mut State, input: &mut Input) -> Result<bool, Refusal> {
     let are_made = runs(state, input)? && runs(state, input)?;
     let is_read = reads(state, input)?;
@@ -127,7 +127,7 @@ fn met(found: Result<bool, Refusal>) -> bool {
 
 #[test]
 fn a_run_has_its_state(rt: HostRuntime) -> Result<(), Fail> {
-    let text = r"\def\x{ab}\newcommand\y[1]{#1#1}\x \y{-}cycle\z";
+    let text = r"\def\x{ab}\newcommand\y[1]{#1#1}\x \y{-}\z";
     let (mut state, mut input) = before(rt.alloc(), text, 9)?;
     assert!(rt; met(holds(rt.alloc(), &mut state, &mut input)));
     assert!(rt; met(opens(&mut state)));
@@ -140,7 +140,7 @@ fn key_lists_have_their_paths(rt: HostRuntime) -> Result<(), Fail> {
     let text =
         r"{/a/.store in=\m,/b/.cd,c/.code={\pgfkeysalso{/d/.cd}},c,/a=5}{{\pgfkeysalso{x/.cd}}\pgfkeysalso{y/.code={\def\m{#1}},y=7}}\m";
     let (mut state, mut input) = before(rt.alloc(), text, 100)?;
-    assert!(rt; met(sets_key(rt.alloc(), &mut state, &mut input)));
+    assert!(rt; met(sets_key(&mut state, &mut input)));
     assert!(rt; met(sets_below(rt.alloc(), &mut state, &mut input)));
     assert!(rt; met(begins(&mut state, &mut input, '7')));
     assert!(rt; met(sets_macro(rt.alloc(), &mut state)));

@@ -17,7 +17,7 @@ use Rattle.tk_store.specs.declared.Macro.{Macro}
 use Rattle.tk_store.specs.Levels.{Macros}
 use Rattle.tk_expand.specs.Arguments.{call_text}
 use Rattle.tk_expand.specs.Expand.{pay, Stream, with_rest, work, called_by, replaced, front_token, front_list, front_step, front, full_list, full_step, full}
-use Rattle.tk_expand.specs.Reading.{Next, first_taken, is_there, place_of, expect, next, next_solid_step, next_solid, after_next, after_letters}
+use Rattle.tk_expand.specs.Reading.{Next, first_taken, is_there, next, next_solid_step, next_solid}
 use Rattle.tk_expand.proofs.Lengths.{text_rest}
 
 -- a payment that was made is within the budget
@@ -194,24 +194,3 @@ module _ (budget : ℕ) (macros : Macros) where
   pub solid_stuck : (stuck : Answer Next) (s : Stream) → next_solid budget macros s ≡ by_size (work budget) stuck (next_solid_step budget macros) s
   unfolding next_solid
   solid_stuck stuck s = independent (work budget) (next_solid_step budget macros) solid_asks (fault Budget 0) stuck s
-
-  -- ---- tokens that have to be there
-
-  expected : (code : Code) (wanted : Kind → Bool) (s : Stream) (n : Next) → Takes budget s n → (b : Bool) → is_there wanted n.token ≡ b → IfOk (if b then Ok n.stream else fault code (place_of n.stream.list.end n.token)) (LessLeft budget s)
-  expected code wanted s n f true h = record { end = f.end; units = f.units; less = (let a = f.work_falls in omega (arith, one_there wanted n.token h)) }
-  expected code wanted s n f false h = tt
-
-  pub expect_less : (code : Code) (wanted : Kind → Bool) (s : Stream) (n : Next) → Takes budget s n → IfOk (expect code wanted n) (LessLeft budget s)
-  unfolding expect
-  expect_less code wanted s n f = expected code wanted s n f (is_there wanted n.token) refl
-
-  pub after_next_less : (code : Code) (wanted : Kind → Bool) (s : Stream) → IfOk (after_next budget macros code wanted s) (LessLeft budget s)
-  unfolding after_next
-  after_next_less code wanted s = then_holds (Takes budget s) (LessLeft budget s) (next budget macros s) _ (next_takes s) (λ n f. expect_less code wanted s n f)
-
-  pub after_letters_falls : (code : Code) (text : List ℕ) (s : Stream) → IfOk (after_letters budget macros code text s) (Falls budget s)
-  unfolding after_letters
-  after_letters_falls code [] s = same_falls budget s
-  after_letters_falls code (c ∷ cs) s =
-      then_holds (LessLeft budget s) (Falls budget s) (after_next budget macros code (is_char c) s) _ (after_next_less code (is_char c) s) (λ r f.
-      further budget s r (after_letters budget macros code cs r) (less_falls budget s r f) (after_letters_falls code cs r))

@@ -8,8 +8,8 @@ use Rattle.tk_token.specs.Answers.{Answer, fault}
 use Rattle.tk_token.specs.Kinds.{is_char, is_space}
 use Rattle.tk_store.specs.Levels.{Macros}
 use Rattle.tk_expand.specs.Expand.{Stream, work, front}
-use Rattle.tk_expand.specs.Reading.{Next, first_taken, is_there, place_of, expect, next, next_solid, after_next, after_letters}
-use Rattle.tk_expand.proofs.Falling.{Takes, LessLeft, one_there, next_takes, solid_is, after_next_less}
+use Rattle.tk_expand.specs.Reading.{Next, first_taken, is_there, place_of, next, next_solid}
+use Rattle.tk_expand.proofs.Falling.{Takes, one_there, next_takes, solid_is}
 use Rattle.tk_expand.proofs.Places.{StandAt, Stands, then_stands, also, StreamAt, BodiesAt, by_work, front_at}
 
 module _ (P : ℕ → Type 0) where
@@ -30,14 +30,6 @@ module _ (P : ℕ → Type 0) where
   place_at end None p h = p
   place_at end (Some t) p h = h
 
-  expected_at : (code : Code) (n : Next) → P n.stream.list.end → NextAt n → (b : Bool) → Stands P (StreamAt P) (let r : Answer Stream = if b then Ok n.stream else fault code (place_of n.stream.list.end n.token) in r)
-  expected_at code n p h true = h.1
-  expected_at code n p h false = place_at n.stream.list.end n.token p h.0
-
-  pub expect_at : (code : Code) (wanted : Kind → Bool) (n : Next) → P n.stream.list.end → NextAt n → Stands P (StreamAt P) (expect code wanted n)
-  unfolding expect
-  expect_at code wanted n p h = expected_at code n p h (is_there wanted n.token)
-
   module _ (budget : ℕ) (macros : Macros) (bodies : BodiesAt P macros) where
     pub next_at : (s : Stream) → StreamAt P s → Stands P NextAt (next budget macros s)
     unfolding next
@@ -51,16 +43,3 @@ module _ (P : ℕ → Type 0) where
     next_solid_at s = by_work P budget macros bodies (λ s. StreamAt P s → Stands P NextAt (next_solid budget macros s)) (λ s h all. subst (Stands P NextAt) (sym (solid_is budget macros s)) (
         then_stands P (λ (n : Next). NextAt n × Takes budget s n) NextAt (next budget macros s) _ (also P NextAt (Takes budget s) (next budget macros s) (next_at s all) (next_takes budget macros s)) (λ n k.
         solid_at n k.0 (is_there is_space n.token) (λ b. h n.stream (let a = k.1.work_falls in omega (arith, one_there is_space n.token b)) k.0.1)))) (suc (work budget s)) s (omega arith)
-
-    pub after_next_at : (code : Code) (wanted : Kind → Bool) (s : Stream) → P s.list.end → StreamAt P s → Stands P (StreamAt P) (after_next budget macros code wanted s)
-    unfolding after_next
-    after_next_at code wanted s p h =
-        then_stands P (λ (n : Next). NextAt n × Takes budget s n) (StreamAt P) (next budget macros s) _ (also P NextAt (Takes budget s) (next budget macros s) (next_at s h) (next_takes budget macros s)) (λ n k.
-        expect_at code wanted n (subst P (sym k.1.end) p) k.0)
-
-    pub after_letters_at : (code : Code) (text : List ℕ) (s : Stream) → P s.list.end → StreamAt P s → Stands P (StreamAt P) (after_letters budget macros code text s)
-    unfolding after_letters
-    after_letters_at code [] s p h = h
-    after_letters_at code (c ∷ cs) s p h =
-        then_stands P (λ (r : Stream). StreamAt P r × LessLeft budget s r) (StreamAt P) (after_next budget macros code (is_char c) s) _ (also P (StreamAt P) (LessLeft budget s) (after_next budget macros code (is_char c) s) (after_next_at code (is_char c) s p h) (after_next_less budget macros code (is_char c) s)) (λ r k.
-        after_letters_at code cs r (subst P (sym k.1.end) p) k.0)

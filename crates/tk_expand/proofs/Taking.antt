@@ -11,7 +11,7 @@ use Rattle.tk_token.specs.Refusals.{Fails}
 use Rattle.tk_token.proofs.Answering.{then_is, fails_then, fails_as}
 use Rattle.tk_store.specs.Levels.{Macros}
 use Rattle.tk_expand.specs.Expand.{Stream}
-use Rattle.tk_expand.specs.Reading.{Next, taken, is_there, next, next_solid, after_next, after_letters}
+use Rattle.tk_expand.specs.Reading.{Next, taken, is_there, next, next_solid}
 use Rattle.tk_expand.proofs.Falling.{solid_is}
 
 module _ (budget : ℕ) (macros : Macros) (s : Stream) where
@@ -35,18 +35,3 @@ module _ (budget : ℕ) (macros : Macros) (s : Stream) where
 
   pub solid_fails : (e : Refusal) → Fails e (next budget macros s) → Fails e (next_solid budget macros s)
   solid_fails e h = fails_as e _ _ (solid_is budget macros s) (fails_then e (next budget macros s) solid_from h)
-
-module _ (budget : ℕ) (macros : Macros) (code : Code) (text : List ℕ) (i : ℕ) (s : Stream) where
-  next_letter : i < length text → after_letters budget macros code (drop i text) s ≡ (after_next budget macros code (is_char (get_or text i 0)) s >>= after_letters budget macros code (drop (i + 1) text))
-  unfolding after_letters
-  next_letter h = rw (add-one, drop-cons text i 0 h) refl
-
-  pub letter_met : (r : Stream) → i < length text → after_next budget macros code (is_char (get_or text i 0)) s ≡ Ok r → after_letters budget macros code (drop i text) s ≡ after_letters budget macros code (drop (i + 1) text) r
-  letter_met r h e = next_letter h ∙ then_is (after_next budget macros code (is_char (get_or text i 0)) s) (after_letters budget macros code (drop (i + 1) text)) r e
-
-  pub letter_missed : (e : Refusal) → i < length text → Fails e (after_next budget macros code (is_char (get_or text i 0)) s) → Fails e (after_letters budget macros code (drop i text) s)
-  letter_missed e h k = fails_as e _ _ (next_letter h) (fails_then e (after_next budget macros code (is_char (get_or text i 0)) s) (after_letters budget macros code (drop (i + 1) text)) k)
-
-  pub letters_met : length text ≤ i → after_letters budget macros code (drop i text) s ≡ Ok s
-  unfolding after_letters
-  letters_met h = rw (drop_all i text h) refl

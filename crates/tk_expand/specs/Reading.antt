@@ -82,11 +82,6 @@ abbrev pub place_of : ℕ → Option Tok → ℕ
 place_of end None = end
 place_of end (Some t) = t.at
 
--- the stream behind a token that was taken, which has to be such a one
-unfoldable pub expect : Code → (Kind → Bool) → Next → Answer Stream
-expect code wanted n =
-    if is_there wanted n.token then Ok n.stream else fault code (place_of n.stream.list.end n.token)
-
 module _ (budget : ℕ) (macros : Macros) where
   -- the next token
   unfoldable pub next : Stream → Answer Next
@@ -103,12 +98,3 @@ module _ (budget : ℕ) (macros : Macros) where
   -- the next token that is no Space
   unfoldable pub next_solid : Stream → Answer Next
   next_solid = by_size (work budget) (fault Budget 0) next_solid_step
-
-  -- the stream behind the next token, which has to be such a one
-  unfoldable pub after_next : Code → (Kind → Bool) → Stream → Answer Stream
-  after_next code wanted s = next s >>= expect code wanted
-
-  -- the stream behind the characters of a text, with nothing between them
-  unfoldable pub after_letters : Code → List ℕ → Stream → Answer Stream
-  after_letters code [] s = Ok s
-  after_letters code (c ∷ cs) s = after_next code (is_char c) s >>= after_letters code cs

@@ -5,7 +5,7 @@ ghost use Rattle.std.specs.Option.{option_to_list};
 ghost use Rattle.tk_token.specs.Kinds.{is_char};
 ghost use Rattle.tk_token.specs.Refusals.{Gives};
 ghost use Rattle.tk_expand.specs.Expand.{stream};
-ghost use Rattle.tk_expand.specs.Reading.{taken, is_there, place_of, next_solid, after_next, after_letters};
+ghost use Rattle.tk_expand.specs.Reading.{taken, is_there, place_of, next_solid};
 
 use crate::reading::require;
 use crate::{Input, Units};
@@ -31,51 +31,6 @@ impl Input {
             }
         }
         Ok(None)
-    }
-
-    /// Takes the next token, which has to be that character. The fault stands at another token, or where the list runs out.
-    #[tactic(auto, unfolding(crate::specs::Reading::expect, crate::specs::Reading::after_next))]
-    pub fn expect_next(
-        &mut self,
-        code: Code,
-        wanted: char,
-        store: &Store,
-        units: &mut Units,
-    ) -> Result<(), Refusal>
-        ensures gives { Gives (λ _. stream units.new.used self.new) result
-            (after_next units.old.budget store.now.top.macros code (is_char wanted)
-            (stream units.old.used self.old)) }
-        ensures end { OnOk result (self.new.end ≡ self.old.end) }
-        ensures budget { units.new.budget ≡ units.old.budget }
-        ensures used { OnOk result (units.old.used ≤ units.new.used) }
-        ensures work { OnOk result ((units.new.budget - units.new.used) + length self.new.rest
-            < (units.old.budget - units.old.used) + length self.old.rest) }
-    {
-        let token = self.next(store, units)?;
-        Ok(self.expect(code, token, wanted)?)
-    }
-
-    /// Takes the characters of a text, with nothing between them.
-    pub fn expect_letters(
-        &mut self,
-        code: Code,
-        text: &[u8],
-        store: &Store,
-        units: &mut Units,
-    ) -> Result<(), Refusal>
-        ensures gives { Gives (λ _. stream units.new.used self.new) result
-            (after_letters units.old.budget store.now.top.macros code text.now
-            (stream units.old.used self.old)) }
-        ensures end { OnOk result (self.new.end ≡ self.old.end) }
-        ensures budget { units.new.budget ≡ units.old.budget }
-        ensures used { OnOk result (units.old.used ≤ units.new.used) }
-        ensures work { OnOk result ((units.new.budget - units.new.used) + length self.new.rest
-            ≤ (units.old.budget - units.old.used) + length self.old.rest) }
-    {
-        for byte in text {
-            self.expect_next(code, char::from(*byte), store, units)?;
-        }
-        Ok(())
     }
 
     /// Asks that a token that was taken is that character. The fault stands at another token, or where the list runs out.

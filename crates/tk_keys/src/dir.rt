@@ -45,7 +45,7 @@ impl Dir {
     }
 
     /// The root, which is the empty path. This takes no memory.
-    pub fn root(_alloc: Global) -> Dir
+    pub fn root() -> Dir
         ensures { result ≡ [] }
     {
         Dir {

@@ -66,7 +66,7 @@ impl State {
         let Some(setting) = self.setting_of(first.kind) else {
             return Ok(false);
         };
-        let mut dir = Dir::root(self.alloc);
+        let mut dir = Dir::root();
         self.set(setting, first.at, &mut dir, input)?;
         Ok(true)
     }
@@ -203,7 +203,7 @@ impl State {
         let list = input.argument(at)?;
         match origin {
             Origin::Here => self.run_keys(dir, &list, at)?,
-            Origin::Root => self.run_keys(&mut Dir::root(self.alloc), &list, at)?,
+            Origin::Root => self.run_keys(&mut Dir::root(), &list, at)?,
             Origin::Tikz => self.run_keys(&mut Dir::new(self.alloc, "/tikz")?, &list, at)?,
         }
         input.keep(list);

@@ -5,7 +5,7 @@ ghost use Rattle.tk_token.specs.Refusals.{Gives};
 ghost use Rattle.tk_store.specs.Levels.{opened};
 ghost use Rattle.tk_token.specs.Kinds.{is_char};
 ghost use Rattle.tk_expand.specs.Expand.{full};
-ghost use Rattle.tk_expand.specs.Reading.{taken, next, next_solid, after_next, after_letters};
+ghost use Rattle.tk_expand.specs.Reading.{taken, next, next_solid};
 ghost use Rattle.tk_expand.specs.Unread.{unread};
 ghost use Rattle.tk_keys.specs.Environment.{level};
 ghost use Rattle.tk_keys.specs.Given.{known_words};
@@ -194,34 +194,6 @@ impl State {
         ensures pays { Pays self.old self.new }
     {
         input.next_solid(&self.store, &mut self.units)
-    }
-
-    /// Asks that the next token of a list is that character.
-    pub fn expect_next(
-        &mut self,
-        input: &mut Input,
-        code: Code,
-        wanted: char,
-    ) -> Result<(), Refusal>
-        ensures gives { Gives (λ _. stream_of self.new input.new) result
-            (after_next self.old.budget (env_of self.old).macros code (is_char wanted) (stream_of self.old input.old)) }
-        ensures pays { Pays self.old self.new }
-    {
-        input.expect_next(code, wanted, &self.store, &mut self.units)
-    }
-
-    /// Asks that the characters of a text are next in a list, with nothing between them.
-    pub fn expect_letters(
-        &mut self,
-        input: &mut Input,
-        code: Code,
-        text: &[u8],
-    ) -> Result<(), Refusal>
-        ensures gives { Gives (λ _. stream_of self.new input.new) result
-            (after_letters self.old.budget (env_of self.old).macros code text.now (stream_of self.old input.old)) }
-        ensures pays { Pays self.old self.new }
-    {
-        input.expect_letters(code, text, &self.store, &mut self.units)
     }
 
     /// A list with no macro call left. Where nothing in it calls, it is the list itself.
