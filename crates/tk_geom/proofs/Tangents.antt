@@ -19,25 +19,25 @@ rise_from n (suc k) le =
     let e : n + suc k ≡ n + k + 1 = omega arith in
     rw e (omega (arith, before, last))
 
-sine_23 : get_or sines 23 0 ≡ 25607
+sine_of_23 : get_or sines 23 0 ≡ 25607
 unfolding sines
-sine_23 = refl
+sine_of_23 = refl
 
-sine_67 : get_or sines 67 0 ≡ 60326
+sine_of_67 : get_or sines 67 0 ≡ 60326
 unfolding sines
-sine_67 = refl
+sine_of_67 = refl
 
-up_to_23 : (n : ℕ) → n ≤ 23 → get_or sines n 0 ≤ 25607
-up_to_23 n le =
+sines_to_23_are_at_most_that : (n : ℕ) → n ≤ 23 → get_or sines n 0 ≤ 25607
+sines_to_23_are_at_most_that n le =
     let rise = rise_from n (23 - n) (omega arith) in
     let e : n + (23 - n) ≡ 23 = omega arith in
-    omega (arith, rw e at rise, sine_23)
+    omega (arith, rw e at rise, sine_of_23)
 
-from_67 : (n : ℕ) → 67 ≤ n → n ≤ 90 → 60326 ≤ get_or sines n 0
-from_67 n low high =
+sines_from_67_are_at_least_that : (n : ℕ) → 67 ≤ n → n ≤ 90 → 60326 ≤ get_or sines n 0
+sines_from_67_are_at_least_that n low high =
     let rise = rise_from 67 (n - 67) (omega arith) in
     let e : 67 + (n - 67) ≡ n = omega arith in
-    omega (arith, rw e at rise, sine_67)
+    omega (arith, rw e at rise, sine_of_67)
 
 -- ---- between two degrees
 
@@ -50,11 +50,11 @@ between low high part le lt =
 quarter_most : (a : ℕ) → a ≤ 1474560 → quarter_sine a ≤ 25607
 quarter_most a le =
     let b = between (get_or sines (a / 65536) 0) (get_or sines (a / 65536 + 1) 0) (a % 65536) (sines_rise (a / 65536) (omega arith)) (omega arith) in
-    let m = up_to_23 (a / 65536 + 1) (omega arith) in
+    let m = sines_to_23_are_at_most_that (a / 65536 + 1) (omega arith) in
     omega (arith, b, m)
 
 quarter_least : (a : ℕ) → 4423680 ≤ a → a ≤ 5898240 → 60326 ≤ quarter_sine a
-quarter_least a low high = let l = from_67 (a / 65536) (omega arith) (omega arith) in omega (arith, l)
+quarter_least a low high = let l = sines_from_67_are_at_least_that (a / 65536) (omega arith) (omega arith) in omega (arith, l)
 
 -- ---- angles of both signs
 

@@ -6,21 +6,21 @@ use Rattle.tk_num.specs.Number.{nearest_65536th}
 use Rattle.tk_num.specs.Text.{nearest_digits, reads_back, fewest_digits, distance, ReadsAs, IsBest}
 
 -- whatever digits read as the fraction, the nearest do
-again_1 : (f m : ℕ) → nearest_65536th 1 m ≡ f → nearest_65536th 1 (nearest_digits 1 f) ≡ f
-again_1 f m e = omega arith
+nearest_digit_reads_back : (f m : ℕ) → nearest_65536th 1 m ≡ f → nearest_65536th 1 (nearest_digits 1 f) ≡ f
+nearest_digit_reads_back f m e = omega arith
 
-again_2 : (f m : ℕ) → nearest_65536th 2 m ≡ f → nearest_65536th 2 (nearest_digits 2 f) ≡ f
-again_2 f m e = omega arith
+nearest_two_digits_read_back : (f m : ℕ) → nearest_65536th 2 m ≡ f → nearest_65536th 2 (nearest_digits 2 f) ≡ f
+nearest_two_digits_read_back f m e = omega arith
 
-again_3 : (f m : ℕ) → nearest_65536th 3 m ≡ f → nearest_65536th 3 (nearest_digits 3 f) ≡ f
-again_3 f m e = omega arith
+nearest_three_digits_read_back : (f m : ℕ) → nearest_65536th 3 m ≡ f → nearest_65536th 3 (nearest_digits 3 f) ≡ f
+nearest_three_digits_read_back f m e = omega arith
 
-again_4 : (f m : ℕ) → nearest_65536th 4 m ≡ f → nearest_65536th 4 (nearest_digits 4 f) ≡ f
-again_4 f m e = omega arith
+nearest_four_digits_read_back : (f m : ℕ) → nearest_65536th 4 m ≡ f → nearest_65536th 4 (nearest_digits 4 f) ≡ f
+nearest_four_digits_read_back f m e = omega arith
 
 -- five digits always read back
-always_5 : (f : ℕ) → f < 65536 → nearest_65536th 5 (nearest_digits 5 f) ≡ f
-always_5 f lt = omega arith
+nearest_five_digits_read_back : (f : ℕ) → f < 65536 → nearest_65536th 5 (nearest_digits 5 f) ≡ f
+nearest_five_digits_read_back f lt = omega arith
 
 eq-from_eqb : (m n : ℕ) → eqb m n ≡ true → m ≡ n
 eq-from_eqb m n e = grind (arith, nat_tests)
@@ -39,7 +39,7 @@ by_count P p1 p2 p3 p4 p5 (suc (suc (suc (suc (suc (suc n)))))) low high = absur
 again : (f : ℕ) → f < 65536 → (n d : ℕ) → ReadsAs f n d → reads_back n f ≡ true
 again f lt n d r =
     by_count (λ k. nearest_65536th k d ≡ f → reads_back k f ≡ true)
-    (λ e. eq-eqb _ _ (again_1 f d e)) (λ e. eq-eqb _ _ (again_2 f d e)) (λ e. eq-eqb _ _ (again_3 f d e)) (λ e. eq-eqb _ _ (again_4 f d e)) (λ e. eq-eqb _ _ (always_5 f lt))
+    (λ e. eq-eqb _ _ (nearest_digit_reads_back f d e)) (λ e. eq-eqb _ _ (nearest_two_digits_read_back f d e)) (λ e. eq-eqb _ _ (nearest_three_digits_read_back f d e)) (λ e. eq-eqb _ _ (nearest_four_digits_read_back f d e)) (λ e. eq-eqb _ _ (nearest_five_digits_read_back f lt))
     n r.some r.most r.reads
 
 -- the nearest are nearer than any others
@@ -91,7 +91,7 @@ pick f lt true b2 b3 b4 e1 e2 e3 e4 = best_at f 1 lt (omega arith) (omega arith)
 pick f lt false true b3 b4 e1 e2 e3 e4 = best_at f 2 lt (omega arith) (omega arith) e2 (least_from f 2 lt (below_more (λ k. reads_back k f ≡ false) 1 (none_below (λ k. reads_back k f ≡ false)) e1))
 pick f lt false false true b4 e1 e2 e3 e4 = best_at f 3 lt (omega arith) (omega arith) e3 (least_from f 3 lt (below_more (λ k. reads_back k f ≡ false) 2 (below_more (λ k. reads_back k f ≡ false) 1 (none_below (λ k. reads_back k f ≡ false)) e1) e2))
 pick f lt false false false true e1 e2 e3 e4 = best_at f 4 lt (omega arith) (omega arith) e4 (least_from f 4 lt (below_more (λ k. reads_back k f ≡ false) 3 (below_more (λ k. reads_back k f ≡ false) 2 (below_more (λ k. reads_back k f ≡ false) 1 (none_below (λ k. reads_back k f ≡ false)) e1) e2) e3))
-pick f lt false false false false e1 e2 e3 e4 = best_at f 5 lt (omega arith) (omega arith) (eq-eqb _ _ (always_5 f lt)) (least_from f 5 lt (below_more (λ k. reads_back k f ≡ false) 4 (below_more (λ k. reads_back k f ≡ false) 3 (below_more (λ k. reads_back k f ≡ false) 2 (below_more (λ k. reads_back k f ≡ false) 1 (none_below (λ k. reads_back k f ≡ false)) e1) e2) e3) e4))
+pick f lt false false false false e1 e2 e3 e4 = best_at f 5 lt (omega arith) (omega arith) (eq-eqb _ _ (nearest_five_digits_read_back f lt)) (least_from f 5 lt (below_more (λ k. reads_back k f ≡ false) 4 (below_more (λ k. reads_back k f ≡ false) 3 (below_more (λ k. reads_back k f ≡ false) 2 (below_more (λ k. reads_back k f ≡ false) 1 (none_below (λ k. reads_back k f ≡ false)) e1) e2) e3) e4))
 
 pub is_best : (f : ℕ) → f < 65536 → IsBest f (fewest_digits f) (nearest_digits (fewest_digits f) f)
 is_best f lt = pick f lt (reads_back 1 f) (reads_back 2 f) (reads_back 3 f) (reads_back 4 f) refl refl refl refl

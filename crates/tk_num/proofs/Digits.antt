@@ -28,8 +28,8 @@ value_more ds i lt d = digits_value_more 10 ds i lt ∙ ap (λ x. digits_value 1
 pub below_pow_more : (n i d : ℕ) → n < 10 ^ i → d ≤ 9 → n * 10 + d < 10 ^ (i + 1)
 below_pow_more n i d lt le = rw (pow_more 10 i) (omega arith)
 
-pub pow_17 : (i : ℕ) → i ≤ 17 → 10 ^ i ≤ 10 ^ 17
-pow_17 i le = pow-le-pow_right (omega arith) le
+pub powers_of_ten_rise_to_17 : (i : ℕ) → i ≤ 17 → 10 ^ i ≤ 10 ^ 17
+powers_of_ten_rise_to_17 i le = pow-le-pow_right (omega arith) le
 
 pub position_some : (p : ℕ → Bool) (xs : List ℕ) (k : ℕ) → Some k ≡ position p xs → position_or_len p xs ≡ k
 position_some p xs k e = grind (arith, nat_tests)

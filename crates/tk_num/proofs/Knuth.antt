@@ -29,29 +29,29 @@ next_rest : (p : ℕ) → 5 * ((10 * p) % 131072) ≡ 10 * ((5 * (p % 131072)) %
 next_rest p = omega arith
 
 -- where the loop ends, the digits read back, and no others do
-ends_1 : (f : ℕ) → 5 * (scaled_up 1 f % 131072) ≤ 100 → (nearest_65536th 1 (nearest_digits 1 f) ≡ f) × (scaled_up 1 f / 131072 ≡ nearest_digits 1 f)
-ends_1 f le = (omega arith, omega arith)
+one_digit_reads_back : (f : ℕ) → 5 * (scaled_up 1 f % 131072) ≤ 100 → (nearest_65536th 1 (nearest_digits 1 f) ≡ f) × (scaled_up 1 f / 131072 ≡ nearest_digits 1 f)
+one_digit_reads_back f le = (omega arith, omega arith)
 
-ends_2 : (f : ℕ) → 5 * (scaled_up 2 f % 131072) ≤ 1000 → (nearest_65536th 2 (nearest_digits 2 f) ≡ f) × (scaled_up 2 f / 131072 ≡ nearest_digits 2 f)
-ends_2 f le = (omega arith, omega arith)
+two_digits_read_back : (f : ℕ) → 5 * (scaled_up 2 f % 131072) ≤ 1000 → (nearest_65536th 2 (nearest_digits 2 f) ≡ f) × (scaled_up 2 f / 131072 ≡ nearest_digits 2 f)
+two_digits_read_back f le = (omega arith, omega arith)
 
-ends_3 : (f : ℕ) → 5 * (scaled_up 3 f % 131072) ≤ 10000 → (nearest_65536th 3 (nearest_digits 3 f) ≡ f) × (scaled_up 3 f / 131072 ≡ nearest_digits 3 f)
-ends_3 f le = (omega arith, omega arith)
+three_digits_read_back : (f : ℕ) → 5 * (scaled_up 3 f % 131072) ≤ 10000 → (nearest_65536th 3 (nearest_digits 3 f) ≡ f) × (scaled_up 3 f / 131072 ≡ nearest_digits 3 f)
+three_digits_read_back f le = (omega arith, omega arith)
 
-ends_4 : (f : ℕ) → 5 * (scaled_up 4 f % 131072) ≤ 100000 → (nearest_65536th 4 (nearest_digits 4 f) ≡ f) × (scaled_up 4 f / 131072 ≡ nearest_digits 4 f)
-ends_4 f le = (omega arith, omega arith)
+four_digits_read_back : (f : ℕ) → 5 * (scaled_up 4 f % 131072) ≤ 100000 → (nearest_65536th 4 (nearest_digits 4 f) ≡ f) × (scaled_up 4 f / 131072 ≡ nearest_digits 4 f)
+four_digits_read_back f le = (omega arith, omega arith)
 
-goes_1 : (f : ℕ) → 100 < 5 * (scaled_up 1 f % 131072) → nearest_65536th 1 (nearest_digits 1 f) ≢ f
-goes_1 f lt e = omega arith
+one_digit_is_too_few : (f : ℕ) → 100 < 5 * (scaled_up 1 f % 131072) → nearest_65536th 1 (nearest_digits 1 f) ≢ f
+one_digit_is_too_few f lt e = omega arith
 
-goes_2 : (f : ℕ) → 1000 < 5 * (scaled_up 2 f % 131072) → nearest_65536th 2 (nearest_digits 2 f) ≢ f
-goes_2 f lt e = omega arith
+two_digits_are_too_few : (f : ℕ) → 1000 < 5 * (scaled_up 2 f % 131072) → nearest_65536th 2 (nearest_digits 2 f) ≢ f
+two_digits_are_too_few f lt e = omega arith
 
-goes_3 : (f : ℕ) → 10000 < 5 * (scaled_up 3 f % 131072) → nearest_65536th 3 (nearest_digits 3 f) ≢ f
-goes_3 f lt e = omega arith
+three_digits_are_too_few : (f : ℕ) → 10000 < 5 * (scaled_up 3 f % 131072) → nearest_65536th 3 (nearest_digits 3 f) ≢ f
+three_digits_are_too_few f lt e = omega arith
 
-goes_4 : (f : ℕ) → 100000 < 5 * (scaled_up 4 f % 131072) → nearest_65536th 4 (nearest_digits 4 f) ≢ f
-goes_4 f lt e = omega arith
+four_digits_are_too_few : (f : ℕ) → 100000 < 5 * (scaled_up 4 f % 131072) → nearest_65536th 4 (nearest_digits 4 f) ≢ f
+four_digits_are_too_few f lt e = omega arith
 
 -- the fifth digit, rounded
 fifth : (f : ℕ) → 100000 < 5 * (scaled_up 4 f % 131072) → 10 * (scaled_up 4 f / 131072) + (5 * (scaled_up 4 f % 131072) + 32768 - 50000) / 65536 ≡ nearest_digits 5 f
@@ -69,7 +69,7 @@ by_place P p1 p2 p3 p4 (suc (suc (suc (suc (suc n))))) low high = absurd (omega 
 ends : (k f : ℕ) → 1 ≤ k → k ≤ 4 → 5 * (scaled_up k f % 131072) ≤ 10 ^ suc k → (reads_back k f ≡ true) × (scaled_up k f / 131072 ≡ nearest_digits k f)
 ends k f low high =
     by_place (λ n. 5 * (scaled_up n f % 131072) ≤ 10 ^ suc n → (reads_back n f ≡ true) × (scaled_up n f / 131072 ≡ nearest_digits n f))
-    (λ le. (eq-eqb _ _ (ends_1 f le).0, (ends_1 f le).1)) (λ le. (eq-eqb _ _ (ends_2 f le).0, (ends_2 f le).1)) (λ le. (eq-eqb _ _ (ends_3 f le).0, (ends_3 f le).1)) (λ le. (eq-eqb _ _ (ends_4 f le).0, (ends_4 f le).1))
+    (λ le. (eq-eqb _ _ (one_digit_reads_back f le).0, (one_digit_reads_back f le).1)) (λ le. (eq-eqb _ _ (two_digits_read_back f le).0, (two_digits_read_back f le).1)) (λ le. (eq-eqb _ _ (three_digits_read_back f le).0, (three_digits_read_back f le).1)) (λ le. (eq-eqb _ _ (four_digits_read_back f le).0, (four_digits_read_back f le).1))
     k low high
 
 not_eqb : (m n : ℕ) → m ≢ n → eqb m n ≡ false
@@ -78,7 +78,7 @@ not_eqb m n ne = grind (arith, nat_tests)
 goes : (k f : ℕ) → 1 ≤ k → k ≤ 4 → 10 ^ suc k < 5 * (scaled_up k f % 131072) → reads_back k f ≡ false
 goes k f low high =
     by_place (λ n. 10 ^ suc n < 5 * (scaled_up n f % 131072) → reads_back n f ≡ false)
-    (λ lt. not_eqb _ _ (goes_1 f lt)) (λ lt. not_eqb _ _ (goes_2 f lt)) (λ lt. not_eqb _ _ (goes_3 f lt)) (λ lt. not_eqb _ _ (goes_4 f lt))
+    (λ lt. not_eqb _ _ (one_digit_is_too_few f lt)) (λ lt. not_eqb _ _ (two_digits_are_too_few f lt)) (λ lt. not_eqb _ _ (three_digits_are_too_few f lt)) (λ lt. not_eqb _ _ (four_digits_are_too_few f lt))
     k low high
 
 -- the fewest digits are those that are found first
@@ -91,8 +91,8 @@ fewest_is k f low high =
     (λ e none. rw (none 1 (omega arith) (omega arith), none 2 (omega arith) (omega arith), none 3 (omega arith) (omega arith), e) refl)
     k low high
 
-fewest_is_5 : (f : ℕ) → ((j : ℕ) → 1 ≤ j → j ≤ 4 → reads_back j f ≡ false) → fewest_digits f ≡ 5
-fewest_is_5 f none = rw (none 1 (omega arith) (omega arith), none 2 (omega arith) (omega arith), none 3 (omega arith) (omega arith), none 4 (omega arith) (omega arith)) refl
+five_digits_are_fewest : (f : ℕ) → ((j : ℕ) → 1 ≤ j → j ≤ 4 → reads_back j f ≡ false) → fewest_digits f ≡ 5
+five_digits_are_fewest f none = rw (none 1 (omega arith) (omega arith), none 2 (omega arith) (omega arith), none 3 (omega arith) (omega arith), none 4 (omega arith) (omega arith)) refl
 
 scaled-more : (k f : ℕ) → scaled_up (suc k) f ≡ 10 * scaled_up k f
 scaled-more k f = rw (pow-suc 10 k) (omega arith)
@@ -164,7 +164,7 @@ short_stop f k s delta before now few delta_is done e none le =
 last_stop : (f s : ℕ) (before now : List ℕ) → now ≡ before ++ fixed_digits 4 (scaled_up 4 f / 131072) → s ≡ 5 * (scaled_up 4 f % 131072) + 32768 - 50000 → 100000 < 5 * (scaled_up 4 f % 131072) → ((j : ℕ) → 1 ≤ j → j ≤ 4 → reads_back j f ≡ false) → now ++ (48 + s / 65536) ∷ [] ≡ before ++ part_text f
 last_stop f s before now done e large none =
     digit_out 4 (nearest_digits 5 f) (scaled_up 4 f / 131072) (s / 65536) before now done (sym (rw e (fifth f large))) (omega arith)
-    ∙ ap (λ ds. before ++ ds) (part_is f 5 (fewest_is_5 f none))
+    ∙ ap (λ ds. before ++ ds) (part_is f 5 (five_digits_are_fewest f none))
 
 pub last_digit : (f rest delta s : ℕ) (before now : List ℕ) → AtDigit f before now rest delta → s ≡ cond (ltb 65536 delta) (rest + 32768 - 50000) rest → 10 * (s % 65536) ≤ delta * 10 → now ++ (48 + s / 65536) ∷ [] ≡ before ++ part_text f
 last_digit f rest delta s before now a e le =

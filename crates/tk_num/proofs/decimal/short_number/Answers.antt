@@ -1,13 +1,13 @@
 use Rattle.std.proofs.Common.{arith}
-use Rattle.tk_num.proofs.Digits.{digit_at, bounds_at, value_more, below_pow_more, pow_17}
+use Rattle.tk_num.proofs.Digits.{digit_at, bounds_at, value_more, below_pow_more, powers_of_ten_rise_to_17}
 use Rattle.tk_num.proofs.decimal.short_number.Goals as goal
 
 pub overflow_mul-value : goal.overflow_mul-value
-overflow_mul-value c = let p = pow_17 c.loop-digit.digit-index (omega arith) in omega (arith, p, c.loop-digit.invariant.below)
+overflow_mul-value c = let p = powers_of_ten_rise_to_17 c.loop-digit.digit-index (omega arith) in omega (arith, p, c.loop-digit.invariant.below)
 
 pub overflow_add-value : goal.overflow_add-value
 overflow_add-value c =
-    let p = pow_17 c.loop-digit.digit-index (omega arith) in
+    let p = powers_of_ten_rise_to_17 c.loop-digit.digit-index (omega arith) in
     let b = bounds_at c.args.digits.now c.loop-digit.digit-index c.requires.digits c.loop-digit-test.true in
     omega (arith, p, b, c.loop-digit.invariant.below, c.from.ensures)
 
