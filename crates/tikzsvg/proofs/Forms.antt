@@ -19,9 +19,9 @@ two_words view (x ∷ y ∷ []) a b len p q = rw (p, q) refl
 two_words view (x ∷ y ∷ z ∷ xs) a b len p q = absurd (omega arith)
 
 -- `render` and the name of a file
-pub asks : {A : Type 0} (view : A → List ℕ) (xs : List A) (a b : A) (w f : List ℕ) → length xs ≡ 2 → a ≡ get_or xs 0 a → b ≡ get_or xs 1 b → w ≡ view a → f ≡ view b → (bytes_eq w (codes "render") && is_file_name f) ≡ true → Some (Render f 10000000) ≡ command_of (map view xs)
+pub two_words_ask : {A : Type 0} (view : A → List ℕ) (xs : List A) (a b : A) (w f : List ℕ) → length xs ≡ 2 → a ≡ get_or xs 0 a → b ≡ get_or xs 1 b → w ≡ view a → f ≡ view b → (bytes_eq w (codes "render") && is_file_name f) ≡ true → Some (Render f 10000000) ≡ command_of (map view xs)
 unfolding command_of
-asks view xs a b w f len p q v u h = rw (two_words view xs a b len p q, ← v, ← u, h) refl
+two_words_ask view xs a b w f len p q v u h = rw (two_words view xs a b len p q, ← v, ← u, h) refl
 
 -- any two other words
 pub asks_nothing : {A : Type 0} (view : A → List ℕ) (xs : List A) (a b : A) (w f : List ℕ) → length xs ≡ 2 → a ≡ get_or xs 0 a → b ≡ get_or xs 1 b → w ≡ view a → f ≡ view b → (bytes_eq w (codes "render") && is_file_name f) ≡ false → None ≡ command_of (map view xs)

@@ -116,16 +116,16 @@ abbrev pub OneOutcome : Type 0
 OneOutcome = (budget : ℕ) (source : List ℕ) (a b : Answer Compiled) → IsOutcome budget source a → IsOutcome budget source b → a ≡ b
 
 -- so it comes to one drawing or fault
-one : OneOutcome → (budget : ℕ) (source : List ℕ) (r s : Result Drawing Fault) → ComesTo budget source r → ComesTo budget source s → r ≡ s
-one law budget source (Ok d) (Ok e) x y = ap drawing_of (law budget source _ _ x.1 y.1)
-one law budget source (Ok d) (Err g) x y = ap drawing_of (law budget source _ _ x.1 y)
-one law budget source (Err f) (Ok e) x y = ap drawing_of (law budget source _ _ x y.1)
-one law budget source (Err f) (Err g) x y = ap drawing_of (law budget source _ _ x y)
+one_outcome_of_a_source : OneOutcome → (budget : ℕ) (source : List ℕ) (r s : Result Drawing Fault) → ComesTo budget source r → ComesTo budget source s → r ≡ s
+one_outcome_of_a_source law budget source (Ok d) (Ok e) x y = ap drawing_of (law budget source _ _ x.1 y.1)
+one_outcome_of_a_source law budget source (Ok d) (Err g) x y = ap drawing_of (law budget source _ _ x.1 y)
+one_outcome_of_a_source law budget source (Err f) (Ok e) x y = ap drawing_of (law budget source _ _ x y.1)
+one_outcome_of_a_source law budget source (Err f) (Err g) x y = ap drawing_of (law budget source _ _ x y)
 
 module _ (law : OneOutcome) (file : List ℕ) (budget : ℕ) (b a : World) where
   -- what was drawn or broken was this source
   drawn_is : (source read : List ℕ) (r s : Result Drawing Fault) → IsTold file source b.shelf a.shelf → WasRead file read b.shelf a.shelf → ComesTo budget read r → ComesTo budget source s → r ≡ s
-  drawn_is source read r s holds w is this = one law budget source r s (subst (λ (bytes : List ℕ). ComesTo budget bytes r) (same_source b.shelf a.shelf file source read holds w) is) this
+  drawn_is source read r s holds w is this = one_outcome_of_a_source law budget source r s (subst (λ (bytes : List ℕ). ComesTo budget bytes r) (same_source b.shelf a.shelf file source read holds w) is) this
 
   completes_at : {s : Status} → Ends file budget b a s → Completes file budget b a (number s)
   completes_at (done r) source drawing told short is writes =

@@ -24,17 +24,17 @@ use Rattle.tk_coord.proofs.LastFirst.{corner_from, last_first, fault_stands}
 
 -- ---- the rest behind a sign
 
-shorter : (rest : List Tok) → begins_corner rest ≡ true → length (drop 2 rest) < length rest
-shorter [] h = absurd cc
-shorter (t ∷ []) h = omega arith
-shorter (t ∷ u ∷ rest) h = omega arith
+behind_sign_is_shorter : (rest : List Tok) → begins_corner rest ≡ true → length (drop 2 rest) < length rest
+behind_sign_is_shorter [] h = absurd cc
+behind_sign_is_shorter (t ∷ []) h = omega arith
+behind_sign_is_shorter (t ∷ u ∷ rest) h = omega arith
 
 -- it is shorter than the text
 rest_shorter : (ts : List Tok) (c : Cut) → Parts begins_corner ts c → length (drop 2 c.rest) < length ts
 rest_shorter ts c h =
     let whole = ap length h.0 in
     let both = length-append c.front c.rest in
-    let less = shorter c.rest h.1 in
+    let less = behind_sign_is_shorter c.rest h.1 in
     omega arith
 
 pub rest_is_shorter : (ts front rest : List Tok)

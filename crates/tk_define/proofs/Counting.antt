@@ -35,15 +35,15 @@ module _ (count more : ℕ) (list : Unread) where
   turn_is n is = ap (λ (n : ℕ). parameters count n list) is
 
 -- a token that is neither `#` nor `{`
-neither : (k : Kind) → (k ≡ Param → ⊥) → (k ≡ Open → ⊥) → (is_param k ≡ false) × (is_open k ≡ false)
-neither Param not_param not_open = absurd (not_param refl)
-neither Open not_param not_open = absurd (not_open refl)
-neither Close not_param not_open = (refl, refl)
-neither (Char c) not_param not_open = (refl, refl)
-neither (Word w) not_param not_open = (refl, refl)
-neither (Symbol c) not_param not_open = (refl, refl)
-neither (Arg n) not_param not_open = (refl, refl)
-neither Space not_param not_open = (refl, refl)
+other_kinds_are_neither : (k : Kind) → (k ≡ Param → ⊥) → (k ≡ Open → ⊥) → (is_param k ≡ false) × (is_open k ≡ false)
+other_kinds_are_neither Param not_param not_open = absurd (not_param refl)
+other_kinds_are_neither Open not_param not_open = absurd (not_open refl)
+other_kinds_are_neither Close not_param not_open = (refl, refl)
+other_kinds_are_neither (Char c) not_param not_open = (refl, refl)
+other_kinds_are_neither (Word w) not_param not_open = (refl, refl)
+other_kinds_are_neither (Symbol c) not_param not_open = (refl, refl)
+other_kinds_are_neither (Arg n) not_param not_open = (refl, refl)
+other_kinds_are_neither Space not_param not_open = (refl, refl)
 
 -- The parameters so far: the answer is that of the list that is left.
 module _ (count : ℕ) (list : Unread) (answer : Answer (Read ℕ)) (told : answer ≡ parameters count (9 - count) list) (lt : count < 9) where
@@ -86,7 +86,7 @@ module _ (count : ℕ) (list : Unread) (answer : Answer (Read ℕ)) (told : answ
     -- a token that doesn't fit
     pub misfits : (tok.kind ≡ Param → ⊥) → (tok.kind ≡ Open → ⊥) → answer ≡ fault MacroSyntax tok.at
     misfits not_param not_open =
-        chosen false (neither tok.kind not_param not_open).0 ∙ ap (λ (m : Answer Unread). m >>= λ inside. Ok (read count inside)) (opened false (neither tok.kind not_param not_open).1)
+        chosen false (other_kinds_are_neither tok.kind not_param not_open).0 ∙ ap (λ (m : Answer Unread). m >>= λ inside. Ok (read count inside)) (opened false (other_kinds_are_neither tok.kind not_param not_open).1)
 
 -- nine parameters: the `{` of the body has to follow
 pub at_nine : (count : ℕ) (list : Unread) (answer : Answer (Read ℕ)) → answer ≡ parameters count (9 - count) list → 9 ≤ count → count ≤ 9 → answer ≡ (after_token MacroSyntax is_open list >>= λ inside. Ok (read 9 inside))
@@ -98,9 +98,9 @@ at_nine count list answer told most least =
 -- ---- the number of arguments in brackets
 
 -- the list behind the `{`, or the want of it, decides once the number and the `]` were read
-pub counted : (list count_at behind_count bracket_at behind : Unread) (count : ℕ) (answer : Answer Unread) → count_at ≡ past_spaces list → token_value MacroSyntax digit_of count_at ≡ Ok (read count behind_count) → bracket_at ≡ past_spaces behind_count → after_token MacroSyntax (is_char right_bracket) bracket_at ≡ Ok behind → after_token MacroSyntax is_open (past_spaces behind) ≡ answer → bracketed_count list ≡ (answer >>= λ inside. Ok (read count inside))
+pub parameters_counted : (list count_at behind_count bracket_at behind : Unread) (count : ℕ) (answer : Answer Unread) → count_at ≡ past_spaces list → token_value MacroSyntax digit_of count_at ≡ Ok (read count behind_count) → bracket_at ≡ past_spaces behind_count → after_token MacroSyntax (is_char right_bracket) bracket_at ≡ Ok behind → after_token MacroSyntax is_open (past_spaces behind) ≡ answer → bracketed_count list ≡ (answer >>= λ inside. Ok (read count inside))
 unfolding bracketed_count
-counted list count_at behind_count bracket_at behind count answer e known f closed is =
+parameters_counted list count_at behind_count bracket_at behind count answer e known f closed is =
     ap (λ (l : Unread). token_value MacroSyntax digit_of l >>= of_count) (sym e) ∙ then_is (token_value MacroSyntax digit_of count_at) of_count (read count behind_count) known
     ∙ ap (λ (l : Unread). after_token MacroSyntax (is_char right_bracket) l >>= of_bracket count) (sym f) ∙ then_is (after_token MacroSyntax (is_char right_bracket) bracket_at) (of_bracket count) behind closed
     ∙ ap (λ (m : Answer Unread). m >>= λ inside. Ok (read count inside)) is

@@ -52,25 +52,25 @@ module _ (at n : ℕ) (texts : List (List Tok)) (rest : List Tok) (answer : Answ
         joined (Err e) = refl
 
 -- without arguments each token of a body stands for itself
-itself : (k : Kind) (t : Tok) → put_in [] k t ≡ t ∷ []
-itself (Arg n) t = refl
-itself (Char c) t = refl
-itself (Word w) t = refl
-itself (Symbol c) t = refl
-itself Open t = refl
-itself Close t = refl
-itself Param t = refl
-itself Space t = refl
+token_stands_for_itself : (k : Kind) (t : Tok) → put_in [] k t ≡ t ∷ []
+token_stands_for_itself (Arg n) t = refl
+token_stands_for_itself (Char c) t = refl
+token_stands_for_itself (Word w) t = refl
+token_stands_for_itself (Symbol c) t = refl
+token_stands_for_itself Open t = refl
+token_stands_for_itself Close t = refl
+token_stands_for_itself Param t = refl
+token_stands_for_itself Space t = refl
 
 without_arguments : (body : List Tok) → with_arguments [] body ≡ body
 without_arguments [] = refl
-without_arguments (t ∷ ts) = ap (λ (us : List Tok). us ++ with_arguments [] ts) (itself t.kind t) ∙ ap (λ (us : List Tok). t ∷ us) (without_arguments ts)
+without_arguments (t ∷ ts) = ap (λ (us : List Tok). us ++ with_arguments [] ts) (token_stands_for_itself t.kind t) ∙ ap (λ (us : List Tok). t ∷ us) (without_arguments ts)
 
 -- with no arguments a body stays as it is
-pub shared : (arguments : List (Vec Tok Global)) (body : List Tok) → length arguments ≡ 0
+pub no_arguments_share_the_body : (arguments : List (Vec Tok Global)) (body : List Tok) → length arguments ≡ 0
     → with_arguments (texts_of arguments) body ≡ body
-shared [] body none = without_arguments body
-shared (a ∷ arguments) body none = absurd (omega (arith, none))
+no_arguments_share_the_body [] body none = without_arguments body
+no_arguments_share_the_body (a ∷ arguments) body none = absurd (omega (arith, none))
 
 -- a call whose arguments are known is replaced where it is paid for
 pub replaced_by : (budget : ℕ) (called : Macro) (at : ℕ) (s : Stream) (texts : List (List Tok)) (rest : List Tok)

@@ -21,8 +21,8 @@ use Rattle.tk_expand.specs.Reading.{Next, first_taken, is_there, next, next_soli
 use Rattle.tk_expand.proofs.Lengths.{text_rest}
 
 -- a payment that was made is within the budget
-pub paid : (budget units cost at : ℕ) → IfOk (pay budget units cost at) (λ now. (now ≡ units + cost) × (now ≤ budget))
-paid budget units cost at = go (nat_lt budget (units + cost)) refl
+pub paid_units_are_within : (budget units cost at : ℕ) → IfOk (pay budget units cost at) (λ now. (now ≡ units + cost) × (now ≤ budget))
+paid_units_are_within budget units cost at = go (nat_lt budget (units + cost)) refl
   where
     go : (b : Bool) → nat_lt budget (units + cost) ≡ b → IfOk (if b then fault Budget at else Ok (units + cost)) (λ now. (now ≡ units + cost) × (now ≤ budget))
     go true e = tt
@@ -96,7 +96,7 @@ module _ (budget : ℕ) where
   unfolding replaced
   replaced_spends called at s =
       then_holds (λ (c : Cut). length c.rest ≤ length s.list.rest) (Spends s) (call_text called at s.list.rest) _ (text_rest called at s.list.rest) (λ c short.
-      then_holds (λ now. (now ≡ s.units + (1 + length c.front)) × (now ≤ budget)) (Spends s) (pay budget s.units (1 + length c.front) at) _ (paid budget s.units (1 + length c.front) at) (λ now p.
+      then_holds (λ now. (now ≡ s.units + (1 + length c.front)) × (now ≤ budget)) (Spends s) (pay budget s.units (1 + length c.front) at) _ (paid_units_are_within budget s.units (1 + length c.front) at) (λ now p.
       record { end = refl; units = omega arith; work_falls = omega (arith, length-append c.front c.rest) }))
 
   -- the word of the call was work too

@@ -18,9 +18,9 @@ use Rattle.tk_expand.specs.Arguments.{argument_from, argument_in, argument_of, A
 abbrev pub IsNoLonger : List Tok → Cut → Type 0
 IsNoLonger ts c = length c.front + length c.rest ≤ length ts
 
-longer : (ts us : List Tok) (c : Option Cut) → length ts ≤ length us → IfSome c (IsNoLonger ts) → IfSome c (IsNoLonger us)
-longer ts us None le h = tt
-longer ts us (Some c) le h = omega arith
+no_longer_than_longer : (ts us : List Tok) (c : Option Cut) → length ts ≤ length us → IfSome c (IsNoLonger ts) → IfSome c (IsNoLonger us)
+no_longer_than_longer ts us None le h = tt
+no_longer_than_longer ts us (Some c) le h = omega arith
 
 argument_from_no_longer : (k : Kind) (t : Tok) (ts : List Tok) → IfSome (argument_from k t ts) (IsNoLonger (t ∷ ts))
 argument_from_no_longer (Char c) t ts = omega arith
@@ -43,7 +43,7 @@ argument_in_no_longer (t ∷ ts) = argument_from_no_longer t.kind t ts
 -- an argument and what stands behind it
 pub argument_no_longer : (ts : List Tok) → IfSome (argument_of ts) (IsNoLonger ts)
 argument_no_longer ts =
-    longer (after_spaces ts) ts (argument_in (after_spaces ts)) (omega (arith, length-drop (prefix_len is_space_token ts) ts)) (argument_in_no_longer (after_spaces ts))
+    no_longer_than_longer (after_spaces ts) ts (argument_in (after_spaces ts)) (omega (arith, length-drop (prefix_len is_space_token ts) ts)) (argument_in_no_longer (after_spaces ts))
 
 -- what stands behind so many arguments
 pub arguments_no_longer : (at n : ℕ) (ts : List Tok) → IfOk (arguments_of at n ts) (λ a. length a.rest ≤ length ts)

@@ -37,14 +37,14 @@ take-set (y ∷ xs) zero x = refl
 take-set {X = X} (y ∷ xs) (suc i) x = ap (λ (ys : List X). y ∷ ys) (take-set xs i x)
 
 -- the first token of the last list is taken
-pub taken : (lists : List (List Tok)) (i : ℕ) (old new : List Tok) (tok : Tok) → suc i ≡ length lists → old ≡ get_or lists i old → old ≡ tok ∷ new → stacked lists ≡ tok ∷ stacked (slice_set lists i new)
-taken lists i old new tok is there first =
+pub taken-within : (lists : List (List Tok)) (i : ℕ) (old new : List Tok) (tok : Tok) → suc i ≡ length lists → old ≡ get_or lists i old → old ≡ tok ∷ new → stacked lists ≡ tok ∷ stacked (slice_set lists i new)
+taken-within lists i old new tok is there first =
     stacked-last lists i old is ∙ ap (λ (ts : List Tok). ts ++ stacked (take i lists)) (sym there ∙ first) ∙ ap (λ (ts : List Tok). tok ∷ ts) (sym (stacked-set lists i new is))
 
 -- the only token of the last list is taken, and that list with it
 pub taken-out : (lists lists' : List (List Tok)) (i : ℕ) (old new : List Tok) (tok : Tok) → suc i ≡ length lists → old ≡ get_or lists i old → old ≡ tok ∷ new → new ≡ [] → lists' ≡ take i (slice_set lists i new) → stacked lists ≡ tok ∷ stacked lists'
 taken-out lists lists' i old new tok is there first none rest =
-    taken lists i old new tok is there first
+    taken-within lists i old new tok is there first
     ∙ ap (λ (ts : List Tok). tok ∷ ts) (stacked-set lists i new is ∙ ap (λ (ts : List Tok). ts ++ stacked (take i lists)) none ∙ ap stacked (sym (rest ∙ take-set lists i new)))
 
 -- with no list there is no token

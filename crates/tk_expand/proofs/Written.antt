@@ -27,9 +27,9 @@ pub passed_over : (rest : List Tok) (t : Tok) (ts : List Tok) → rest ≡ t ∷
 passed_over rest t ts e h = ap after_spaces e ∙ space_passed t ts h
 
 -- another token in front stays there
-pub stays : (rest : List Tok) (t : Tok) → slice_get rest 0 ≡ Some t → is_space t.kind ≡ false → after_spaces rest ≡ rest
-stays [] t first h = absurd cc
-stays (u ∷ ts) t first h = no_space_passed u ts (ap (λ (v : Tok). is_space v.kind) (let e : u ≡ t = cc in e) ∙ h)
+pub without_space_stays : (rest : List Tok) (t : Tok) → slice_get rest 0 ≡ Some t → is_space t.kind ≡ false → after_spaces rest ≡ rest
+without_space_stays [] t first h = absurd cc
+without_space_stays (u ∷ ts) t first h = no_space_passed u ts (ap (λ (v : Tok). is_space v.kind) (let e : u ≡ t = cc in e) ∙ h)
 
 -- and so do no tokens
 pub none_stays : (rest : List Tok) → slice_get rest 0 ≡ None → after_spaces rest ≡ rest
@@ -53,20 +53,20 @@ spaces_no_longer ts = omega (arith, length-drop (prefix_len is_space_token ts) t
 
 -- ---- arguments
 
-single : (k : Kind) (t : Tok) (ts : List Tok) → (k ≡ Open → ⊥) → (k ≡ Close → ⊥) → argument_from k t ts ≡ Some (cut (t ∷ []) ts)
-single Open t ts not_open not_close = absurd (not_open refl)
-single Close t ts not_open not_close = absurd (not_close refl)
-single (Char c) t ts not_open not_close = refl
-single (Word w) t ts not_open not_close = refl
-single (Symbol c) t ts not_open not_close = refl
-single Param t ts not_open not_close = refl
-single (Arg n) t ts not_open not_close = refl
-single Space t ts not_open not_close = refl
+single_token_is_argument : (k : Kind) (t : Tok) (ts : List Tok) → (k ≡ Open → ⊥) → (k ≡ Close → ⊥) → argument_from k t ts ≡ Some (cut (t ∷ []) ts)
+single_token_is_argument Open t ts not_open not_close = absurd (not_open refl)
+single_token_is_argument Close t ts not_open not_close = absurd (not_close refl)
+single_token_is_argument (Char c) t ts not_open not_close = refl
+single_token_is_argument (Word w) t ts not_open not_close = refl
+single_token_is_argument (Symbol c) t ts not_open not_close = refl
+single_token_is_argument Param t ts not_open not_close = refl
+single_token_is_argument (Arg n) t ts not_open not_close = refl
+single_token_is_argument Space t ts not_open not_close = refl
 
 -- a token that is no brace is an argument
 pub single_argument : (at : ℕ) (rest : List Tok) (t : Tok) (ts : List Tok) → after_spaces rest ≡ t ∷ ts → (t.kind ≡ Open → ⊥) → (t.kind ≡ Close → ⊥) → or_fault (argument_of rest) MacroArg at ≡ Ok (cut (t ∷ []) ts)
 single_argument at rest t ts e not_open not_close =
-    ap (λ (us : List Tok). or_fault (argument_in us) MacroArg at) e ∙ ap (λ (o : Option Cut). or_fault o MacroArg at) (single t.kind t ts not_open not_close)
+    ap (λ (us : List Tok). or_fault (argument_in us) MacroArg at) e ∙ ap (λ (o : Option Cut). or_fault o MacroArg at) (single_token_is_argument t.kind t ts not_open not_close)
 
 -- ---- texts
 

@@ -9,7 +9,7 @@ use Rattle.tk_num.specs.Number.{is_point, whole_digits, part_digits, is_decimal,
 use Rattle.tk_num.specs.declared.NumFault.TheVariants as faults
 use Rattle.tk_num.specs.declared.unit.Unit.{Unit as AUnit}
 use Rattle.tk_num.proofs.Digits.{digit_value_of}
-use Rattle.tk_num.proofs.Fixed.{both}
+use Rattle.tk_num.proofs.Fixed.{and_is_both}
 use Rattle.tk_expr.specs.declared.FontUnits.{FontUnits}
 use Rattle.tk_expr.specs.declared.pieces.Mark.{Mark}
 use Rattle.tk_expr.specs.declared.pieces.Mark.TheVariants.{Digit, Point}
@@ -46,9 +46,9 @@ fed_on (Digit d) ps n h = ap (λ (o : Option Decimal). cond (nat_lt d 10) o None
 fed_on Point ps n h = ap (λ (o : Option Decimal). cond n.pointed None o) (h (with_point n))
 fed_on _ ps n h = refl
 
-fed : (ps : List Piece) (n : Decimal) → decimal_from ps n ≡ feed (decimal_text ps) n
-fed [] n = refl
-fed (p ∷ ps) n = fed_on p.mark ps n (λ n. fed ps n)
+decimal_text_fed : (ps : List Piece) (n : Decimal) → decimal_from ps n ≡ feed (decimal_text ps) n
+decimal_text_fed [] n = refl
+decimal_text_fed (p ∷ ps) n = fed_on p.mark ps n (λ n. decimal_text_fed ps n)
 
 -- ---- the two parts of a text
 
@@ -89,7 +89,7 @@ still_pointed d n e = by (nat_lt n.count 17)
 feed_part : (cs : List ℕ) (n : Decimal) → n.pointed ≡ true → AreDigits cs → feed cs n ≡ Some (part_after cs n)
 feed_part [] n p h = refl
 feed_part (c ∷ cs) n p h =
-    let two = both (is_ascii_digit c) (list_all is_ascii_digit cs) h in
+    let two = and_is_both (is_ascii_digit c) (list_all is_ascii_digit cs) h in
     let a : feed (c ∷ cs) n ≡ feed cs (with_digit (c - 48) n) = rw (is_no_point c two.0, two.0) refl in
     let b : with_digit (c - 48) n ≡ with_part_digit (c - 48) n = ap (λ (b : Bool). let m : Decimal = cond b (with_part_digit (c - 48) n) (with_whole_digit (c - 48) n) in m) p in
     a ∙ ap (feed cs) b ∙ feed_part cs (with_part_digit (c - 48) n) (still_pointed (c - 48) n p) two.1
@@ -131,12 +131,12 @@ part_is : (cs : List ℕ) (k : ℕ) (n : Decimal) → n.count + k ≡ 17 → Are
 part_is [] zero n e h = no_part n
 part_is [] (suc k) n e h = no_part n
 part_is (c ∷ cs) zero n e h =
-    let two = both (is_ascii_digit c) (list_all is_ascii_digit cs) h in
+    let two = and_is_both (is_ascii_digit c) (list_all is_ascii_digit cs) h in
     let full : nat_lt n.count 17 ≡ false = le-ltb n.count 17 (omega arith) in
     let same : with_part_digit (c - 48) n ≡ n = ap (λ (b : Bool). let m : Decimal = cond b (record n { count = n.count + 1; part = 10 * n.part + (c - 48) }) n in m) full in
     subst (λ (m : Decimal). PartIs n (part_after cs m) []) (sym same) (part_is cs zero n e two.1)
 part_is (c ∷ cs) (suc k) n e h =
-    let two = both (is_ascii_digit c) (list_all is_ascii_digit cs) h in
+    let two = and_is_both (is_ascii_digit c) (list_all is_ascii_digit cs) h in
     let room : nat_lt n.count 17 ≡ true = lt-ltb n.count 17 (omega arith) in
     let next : Decimal = record n { count = n.count + 1; part = 10 * n.part + (c - 48) } in
     let same : with_part_digit (c - 48) n ≡ next = ap (λ (b : Bool). let m : Decimal = cond b (record n { count = n.count + 1; part = 10 * n.part + (c - 48) }) n in m) room in
@@ -161,7 +161,7 @@ feed_whole (c ∷ cs) n p w f = by (λ n p w f. feed_whole cs n p w f) (is_point
         let b : read_of (c ∷ cs) n ≡ part_after cs (with_point n) = rw e refl in
         a ∙ feed_part cs (with_point n) refl (subst AreDigits (part_point c cs e) f) ∙ ap Some (sym b)
     by again false e =
-        let all = both (is_ascii_digit c) (list_all is_ascii_digit (whole_digits cs)) (subst AreDigits (whole_cons c cs e) w) in
+        let all = and_is_both (is_ascii_digit c) (list_all is_ascii_digit (whole_digits cs)) (subst AreDigits (whole_cons c cs e) w) in
         let a : feed (c ∷ cs) n ≡ feed cs (with_digit (c - 48) n) = rw (e, all.0) refl in
         let b : read_of (c ∷ cs) n ≡ read_of cs (with_whole_digit (c - 48) n) = rw e refl in
         a ∙ ap (feed cs) (whole_digit (c - 48) n p) ∙ again (with_whole_digit (c - 48) n) p all.1 (subst AreDigits (part_cons c cs e) f) ∙ ap Some (sym b)
@@ -205,7 +205,7 @@ read_is (c ∷ cs) n v at e none nought place w f = by (λ n v e none nought pla
           place = h.at ∙ place;
         })
     by again false p =
-        let all = both (is_ascii_digit c) (list_all is_ascii_digit (whole_digits cs)) (subst AreDigits (whole_cons c cs p) w) in
+        let all = and_is_both (is_ascii_digit c) (list_all is_ascii_digit (whole_digits cs)) (subst AreDigits (whole_cons c cs p) w) in
         let h = again (with_whole_digit (c - 48) n) (v * 10 + digit_value c) (kept_whole n.whole v c e all.0) none nought place all.1 (subst AreDigits (part_cons c cs p) f) in
         let b : read_of (c ∷ cs) n ≡ read_of cs (with_whole_digit (c - 48) n) = rw p refl in
         subst (λ (m : Decimal). ReadIs v at (c ∷ cs) m) (sym b) (record {
@@ -245,7 +245,7 @@ value_of font text at n h unit =
 text_read : (font : FontUnits) (ps : List Piece) (at : ℕ) (n : Decimal) → decimal_from ps (no_digits false at) ≡ Some n → OfText font (decimal_text ps) at n
 text_read font ps at n e =
     let text = decimal_text ps in
-    let f : feed text (no_digits false at) ≡ Some n = sym (fed ps (no_digits false at)) ∙ e in
+    let f : feed text (no_digits false at) ≡ Some n = sym (decimal_text_fed ps (no_digits false at)) ∙ e in
     let all = feed_all text (no_digits false at) n refl f in
     let is : Some (read_of text (no_digits false at)) ≡ Some n = sym (feed_whole text (no_digits false at) refl all.0 all.1) ∙ f in
     let same : read_of text (no_digits false at) ≡ n = ap (λ (o : Option Decimal). elim o as (λ _. Decimal) [ None ↦ n | Some m ↦ m ]) is in
@@ -253,12 +253,12 @@ text_read font ps at n e =
 
 all_of : (text : List ℕ) → is_decimal text ≡ true → AreDigits (whole_digits text) × AreDigits (part_digits text) × (nat_lt 0 (length (whole_digits text) + length (part_digits text)) ≡ true)
 all_of text e =
-    let a = both (list_all is_ascii_digit (whole_digits text)) _ e in
-    let b = both (list_all is_ascii_digit (part_digits text)) _ a.1 in
+    let a = and_is_both (list_all is_ascii_digit (whole_digits text)) _ e in
+    let b = and_is_both (list_all is_ascii_digit (part_digits text)) _ a.1 in
     (a.0, b.0, b.1)
 
 text_fed : (ps : List Piece) (at : ℕ) → AreDigits (whole_digits (decimal_text ps)) → AreDigits (part_digits (decimal_text ps)) → decimal_from ps (no_digits false at) ≡ Some (read_of (decimal_text ps) (no_digits false at))
-text_fed ps at w f = fed ps (no_digits false at) ∙ feed_whole (decimal_text ps) (no_digits false at) refl w f
+text_fed ps at w f = decimal_text_fed ps (no_digits false at) ∙ feed_whole (decimal_text ps) (no_digits false at) refl w f
 
 -- ---- from values to texts
 
@@ -294,7 +294,7 @@ module _ (font : FontUnits) (ps : List Piece) where
   Comes p qs = Primary font ps (placed p.at (decimal_in font (next_unit (after_decimal (p ∷ qs))) (decimal_value (decimal_text (p ∷ qs))))) (after_unit (after_decimal (p ∷ qs)))
 
   small_digit : (d : ℕ) (cs : List ℕ) → AreDigits ((48 + d) ∷ cs) → nat_lt d 10 ≡ true
-  small_digit d cs h = sym (digit_test d) ∙ (both (is_ascii_digit (48 + d)) (list_all is_ascii_digit cs) h).0
+  small_digit d cs h = sym (digit_test d) ∙ (and_is_both (is_ascii_digit (48 + d)) (list_all is_ascii_digit cs) h).0
 
   digit_comes : (d at : ℕ) (qs : List Piece) → skip ps ≡ piece (Digit d) at ∷ qs → is_decimal (decimal_text (piece (Digit d) at ∷ qs)) ≡ true → Comes (piece (Digit d) at) qs
   digit_comes d at qs e is =
@@ -317,7 +317,7 @@ module _ (font : FontUnits) (ps : List Piece) where
       subst (λ x. Primary font ps x (after_unit (after_decimal qs))) (sym ((text_read font rs at n f).value (next_unit (after_decimal qs)))) (of_point e small g)
 
   two_points : (cs : List ℕ) → is_decimal (46 ∷ 46 ∷ cs) ≡ true → ⊥
-  two_points cs e = let all = all_of (46 ∷ 46 ∷ cs) e in true≢false (sym ((both (is_ascii_digit 46) (list_all is_ascii_digit cs) (subst AreDigits (part_point 46 (46 ∷ cs) refl) all.1)).0))
+  two_points cs e = let all = all_of (46 ∷ 46 ∷ cs) e in true≢false (sym ((and_is_both (is_ascii_digit 46) (list_all is_ascii_digit cs) (subst AreDigits (part_point 46 (46 ∷ cs) refl) all.1)).0))
 
   point_comes : (m : Mark) (at k : ℕ) (qs : List Piece) → skip ps ≡ piece Point at ∷ piece m k ∷ qs → is_decimal (decimal_text (piece Point at ∷ piece m k ∷ qs)) ≡ true → Comes (piece Point at) (piece m k ∷ qs)
   point_comes (Digit d) at k qs e is = point_digit d at k qs e is

@@ -13,7 +13,7 @@ use Rattle.tk_expr.specs.Faults.{IsBeginning, Opener, Call, unanswered, open_in,
 use Rattle.tk_token.specs.Places.{end_of}
 use Rattle.tk_expr.specs.Evaluates.{has_unit, valued, IsMisfit, IsTooDeep, IsAnswer, evaluates, misfit, miscount, too_deep, ends, Evaluates}
 use Rattle.tk_expr.specs.Pieces.{pieces_of}
-use Rattle.tk_expr.proofs.ProperPieces.{AllProper, proper}
+use Rattle.tk_expr.proofs.ProperPieces.{AllProper, pieces_are_proper}
 use Rattle.tk_expr.proofs.Runs.{one_text}
 
 -- ---- beginnings
@@ -33,18 +33,18 @@ order_more p q b c x y e (alike f g) = alike (ap₂ (λ p l. p ∷ l) e f) g
 order_more p q b c x y e (before m f) = before m (ap₂ (λ p l. p ∷ l) (sym e) f)
 order_more p q b c x y e (behind m f) = behind m (ap₂ (λ p l. p ∷ l) e f)
 
-order : (b c : List Piece) (x y : Piece) (r q : List Piece) → b ++ x ∷ r ≡ c ++ y ∷ q → Order b x c y
+order_of_pieces : (b c : List Piece) (x y : Piece) (r q : List Piece) → b ++ x ∷ r ≡ c ++ y ∷ q → Order b x c y
 unfolding head_of
-order [] [] x y r q e = alike refl (ap (head_of x) e)
-order [] (z ∷ c) x y r q e = before c (ap (λ p. p ∷ c) (sym (ap (head_of x) e)))
-order (z ∷ b) [] x y r q e = behind b (ap (λ p. p ∷ b) (ap (head_of y) e))
-order (z ∷ b) (w ∷ c) x y r q e = order_more z w b c x y (ap (head_of z) e) (order b c x y r q (ap (λ (l : List Piece). drop 1 l) e))
+order_of_pieces [] [] x y r q e = alike refl (ap (head_of x) e)
+order_of_pieces [] (z ∷ c) x y r q e = before c (ap (λ p. p ∷ c) (sym (ap (head_of x) e)))
+order_of_pieces (z ∷ b) [] x y r q e = behind b (ap (λ p. p ∷ b) (ap (head_of y) e))
+order_of_pieces (z ∷ b) (w ∷ c) x y r q e = order_more z w b c x y (ap (head_of z) e) (order_of_pieces b c x y r q (ap (λ (l : List Piece). drop 1 l) e))
 
-shorter : (b m : List Piece) → IsBeginning (b ++ m) → IsBeginning b
-shorter b m h = record { rest = m ++ h.rest; tree = h.tree; reads = subst (λ (l : List Piece). IsText l h.tree) (append_assoc b m h.rest) h.reads }
+beginning_of_beginning : (b m : List Piece) → IsBeginning (b ++ m) → IsBeginning b
+beginning_of_beginning b m h = record { rest = m ++ h.rest; tree = h.tree; reads = subst (λ (l : List Piece). IsText l h.tree) (append_assoc b m h.rest) h.reads }
 
 shorter_of : (b c m : List Piece) → c ≡ b ++ m → IsBeginning c → IsBeginning b
-shorter_of b c m e h = shorter b m (subst IsBeginning e h)
+shorter_of b c m e h = beginning_of_beginning b m (subst IsBeginning e h)
 
 text_begins : (ps : List Piece) (t : Tree) → IsText ps t → IsBeginning ps
 text_begins ps t h = record { rest = []; tree = t; reads = subst (λ (l : List Piece). IsText l t) (sym (append-nil ps)) h }
@@ -59,7 +59,7 @@ module _ (ps : List Piece) where
   misfit_refutes {b = b} {x = x} m h = m.fits_not (shorter_of (b ++ x ∷ []) ps m.rest (m.split ∙ sym (one_more b x m.rest)) h)
 
   one_misfit : {b c : List Piece} {x y : Piece} → IsMisfit ps b x → IsMisfit ps c y → (b ≡ c) × (x ≡ y)
-  one_misfit {b = b} {c = c} {x = x} {y = y} m n = by (order b c x y m.rest n.rest (sym m.split ∙ n.split))
+  one_misfit {b = b} {c = c} {x = x} {y = y} m n = by (order_of_pieces b c x y m.rest n.rest (sym m.split ∙ n.split))
     where
       by : Order b x c y → (b ≡ c) × (x ≡ y)
       by (alike e f) = (e, f)
@@ -74,7 +74,7 @@ module _ (ps : List Piece) where
   all_refutes {b = b} {x = x} d h = deep_refutes d.rest d (d.split ∙ sym (one_more b x d.rest)) h
 
   misfit_deep : {b c : List Piece} {x y : Piece} → IsMisfit ps b x → IsTooDeep ps c y → ⊥
-  misfit_deep {b = b} {c = c} {x = x} {y = y} m d = by (order b c x y m.rest d.rest (sym m.split ∙ d.split))
+  misfit_deep {b = b} {c = c} {x = x} {y = y} m d = by (order_of_pieces b c x y m.rest d.rest (sym m.split ∙ d.split))
     where
       by : Order b x c y → ⊥
       by (alike e f) = m.fits_not (subst IsBeginning (sym (ap₂ (λ l z. l ++ z ∷ []) e f)) d.beginning)
@@ -82,7 +82,7 @@ module _ (ps : List Piece) where
       by (behind l e) = deep_refutes l d e m.shallow
 
   one_deep : {b c : List Piece} {x y : Piece} → IsTooDeep ps b x → IsTooDeep ps c y → x ≡ y
-  one_deep {b = b} {c = c} {x = x} {y = y} d f = by (order b c x y d.rest f.rest (sym d.split ∙ f.split))
+  one_deep {b = b} {c = c} {x = x} {y = y} d f = by (order_of_pieces b c x y d.rest f.rest (sym d.split ∙ f.split))
     where
       by : Order b x c y → x ≡ y
       by (alike e g) = g
@@ -143,4 +143,4 @@ module _ (font : FontUnits) (end : ℕ) (ps : List Piece) (all : AllProper ps) w
 
 -- no tokens have two answers
 pub a_text_has_one_answer : (font : FontUnits) (at : ℕ) (toks : List Tok) (a b : Answer Value) → Evaluates font at toks a → Evaluates font at toks b → a ≡ b
-a_text_has_one_answer font at toks a b i j = one_answer font (end_of at toks) (pieces_of toks) (proper toks) i j
+a_text_has_one_answer font at toks a b i j = one_answer font (end_of at toks) (pieces_of toks) (pieces_are_proper toks) i j

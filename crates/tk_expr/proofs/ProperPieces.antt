@@ -55,5 +55,5 @@ proper_lumps : (lumps : List Lump) → AllProper (map piece_of lumps)
 proper_lumps [] = tt
 proper_lumps (lump ∷ lumps) = (proper_lump lump, proper_lumps lumps)
 
-pub proper : (toks : List Tok) → AllProper (pieces_of toks)
-proper toks = proper_lumps (lumps_of toks)
+pub pieces_are_proper : (toks : List Tok) → AllProper (pieces_of toks)
+pieces_are_proper toks = proper_lumps (lumps_of toks)

@@ -41,7 +41,7 @@ use Rattle.tk_expr.proofs.Continuations.{ends_in, in_mode, Completes}
 use Rattle.tk_expr.proofs.Finishing.{FinishIs, finds, lacks, finish_is, one_value}
 use Rattle.tk_expr.proofs.Levels.{fresh_whole}
 use Rattle.tk_expr.proofs.Outcomes.{IsPlain, CalledAt, Called, Opens, NamedAt, NoCall, InCall, Ahead, NoMiscount, Miscounts, Valid, Kept, SureIs, steps, refuses, miscounts, StepIs, sure, deep, Same}
-use Rattle.tk_expr.proofs.ProperPieces.{AllProper, proper}
+use Rattle.tk_expr.proofs.ProperPieces.{AllProper, pieces_are_proper}
 use Rattle.tk_expr.proofs.Stepping.{step_is}
 use Rattle.tk_expr.proofs.Trees.{read_expression, tell_whole}
 
@@ -324,7 +324,7 @@ module _ (font : FontUnits) where
 -- the machine's answer is one
 pub evaluated_is_the_answer : (font : FontUnits) (at : ℕ) (toks : List Tok) → Evaluates font at toks (evaluated font at toks)
 unfolding evaluated
-evaluated_is_the_answer font at toks = answered font (end_of at toks) [] (pieces_of toks) start (reached_start font) (proper toks)
+evaluated_is_the_answer font at toks = answered font (end_of at toks) [] (pieces_of toks) start (reached_start font) (pieces_are_proper toks)
 
 -- the same for an answer that is known to be the machine's
 pub answer_means : (font : FontUnits) (at : ℕ) (toks : List Tok) (r : Answer Value) → r ≡ evaluated font at toks → Evaluates font at toks r

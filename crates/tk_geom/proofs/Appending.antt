@@ -36,12 +36,12 @@ fails_of : (f : ℕ → Result Seg AffFault) (i : ℕ) (is : List ℕ) (fault : 
 fails_of f i is fault e = rw e refl
 
 -- the piece at i is a fault: so is what is left
-pub fails : (f : ℕ → Result Seg AffFault) (i n : ℕ) (fault : AffFault) → i < n → f i ≡ Err fault → try_map f (range_with_len i (n - i)) ≡ Err fault
-fails f i n fault lt e = ap (try_map f) (range_next i n lt) ∙ fails_of f i (range_with_len (i + 1) (n - (i + 1))) fault e
+pub faulty_piece_ends_all : (f : ℕ → Result Seg AffFault) (i n : ℕ) (fault : AffFault) → i < n → f i ≡ Err fault → try_map f (range_with_len i (n - i)) ≡ Err fault
+faulty_piece_ends_all f i n fault lt e = ap (try_map f) (range_next i n lt) ∙ fails_of f i (range_with_len (i + 1) (n - (i + 1))) fault e
 
 -- nothing is left
-pub ends : (f : ℕ → Result Seg AffFault) (i n : ℕ) (old : List Seg) → n ≤ i → appended old (try_map f (range_with_len i (n - i))) ≡ Ok old
-ends f i n old le = ap (λ is. appended old (try_map f is)) (range_end i n le) ∙ ap (λ (all : List Seg). let r : Result (List Seg) AffFault = Ok all in r)
+pub no_more_pieces : (f : ℕ → Result Seg AffFault) (i n : ℕ) (old : List Seg) → n ≤ i → appended old (try_map f (range_with_len i (n - i))) ≡ Ok old
+no_more_pieces f i n old le = ap (λ is. appended old (try_map f is)) (range_end i n le) ∙ ap (λ (all : List Seg). let r : Result (List Seg) AffFault = Ok all in r)
     (append-nil old)
 
 -- a fault of pieces that were to follow others is their own

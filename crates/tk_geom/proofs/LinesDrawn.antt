@@ -18,9 +18,9 @@ use Rattle.tk_geom.specs.Grids.{Grid, grid_of, grid_behind, grid_appended, line_
 abbrev pub then_grid : Answer Grid → (ℕ → Answer Grid) → Answer Grid
 then_grid first rest = first >>= λ g. rest g.units >>= λ h. Ok (grid_behind g.pieces h)
 
-joined : (old pieces : List Seg) (answer : Answer Grid) → grid_appended old (answer >>= λ h. Ok (grid_behind pieces h)) ≡ grid_appended (old ++ pieces) answer
-joined old pieces (Ok h) = ap (λ (all : List Seg). let r : Answer Grid = Ok (grid_of all h.units) in r) (sym (append_assoc old pieces h.pieces))
-joined old pieces (Err fault) = refl
+grids_joined : (old pieces : List Seg) (answer : Answer Grid) → grid_appended old (answer >>= λ h. Ok (grid_behind pieces h)) ≡ grid_appended (old ++ pieces) answer
+grids_joined old pieces (Ok h) = ap (λ (all : List Seg). let r : Answer Grid = Ok (grid_of all h.units) in r) (sym (append_assoc old pieces h.pieces))
+grids_joined old pieces (Err fault) = refl
 
 -- where the first was drawn, the second is left
 pub then_known : (old new : List Seg) (used : ℕ) (first : Answer Grid) (rest : ℕ → Answer Grid) → grid_appended old first ≡ Ok (grid_of new used)
@@ -30,7 +30,7 @@ then_known old new used (Ok g) rest e =
     let pieces : old ++ g.pieces ≡ new = ap (λ (grid : Grid). grid.pieces) whole in
     let units : g.units ≡ used = ap (λ (grid : Grid). grid.units) whole in
     ap (λ n. grid_appended old (rest n >>= λ h. Ok (grid_behind g.pieces h))) units
-    ∙ joined old g.pieces (rest used)
+    ∙ grids_joined old g.pieces (rest used)
     ∙ ap (λ (all : List Seg). grid_appended all (rest used)) pieces
 then_known old new used (Err fault) rest e = absurd (let bad : ⊥ = cc e in bad)
 

@@ -8,20 +8,20 @@ use Rattle.tk_geom.specs.GridLines.{rising, ceiling_of, floor_of, count_between,
 
 -- ---- the quotients, for a step of n + 1
 
-some : (n : ℕ) → zero < suc n
-some n = omega arith
+suc_is_positive : (n : ℕ) → zero < suc n
+suc_is_positive n = omega arith
 
 under_floor : (z high : ℤ) (n : ℕ) → z ≤ℤ int_div_euclid high (pos (suc n)) → (z *ℤ pos (suc n)) ≤ℤ high
-under_floor (pos m) (pos a) n le = let k = (le-div_iff_mul-le {k = suc n} {x = m} {y = a} (some n)).0 (omega (arith, ints)) in omega (arith, ints, k)
+under_floor (pos m) (pos a) n le = let k = (le-div_iff_mul-le {k = suc n} {x = m} {y = a} (suc_is_positive n)).0 (omega (arith, ints)) in omega (arith, ints, k)
 under_floor (pos m) (negsuc a) n le = absurd (omega (arith, ints))
 under_floor (negsuc m) (pos a) n le = omega (arith, ints)
-under_floor (negsuc m) (negsuc a) n le = let k = (div-lt_iff_lt-mul {k = suc n} {x = a} {y = suc m} (some n)).0 (omega (arith, ints)) in omega (arith, ints, k)
+under_floor (negsuc m) (negsuc a) n le = let k = (div-lt_iff_lt-mul {k = suc n} {x = a} {y = suc m} (suc_is_positive n)).0 (omega (arith, ints)) in omega (arith, ints, k)
 
 floor_above : (z high : ℤ) (n : ℕ) → (z *ℤ pos (suc n)) ≤ℤ high → z ≤ℤ int_div_euclid high (pos (suc n))
-floor_above (pos m) (pos a) n le = let k = (le-div_iff_mul-le {k = suc n} {x = m} {y = a} (some n)).1 (omega (arith, ints)) in omega (arith, ints, k)
+floor_above (pos m) (pos a) n le = let k = (le-div_iff_mul-le {k = suc n} {x = m} {y = a} (suc_is_positive n)).1 (omega (arith, ints)) in omega (arith, ints, k)
 floor_above (pos m) (negsuc a) n le = absurd (omega (arith, ints))
 floor_above (negsuc m) (pos a) n le = omega (arith, ints)
-floor_above (negsuc m) (negsuc a) n le = let k = (div-lt_iff_lt-mul {k = suc n} {x = a} {y = suc m} (some n)).1 (omega (arith, ints)) in omega (arith, ints, k)
+floor_above (negsuc m) (negsuc a) n le = let k = (div-lt_iff_lt-mul {k = suc n} {x = a} {y = suc m} (suc_is_positive n)).1 (omega (arith, ints)) in omega (arith, ints, k)
 
 neg_times : (z : ℤ) (n : ℕ) → neg_ℤ z *ℤ pos n ≡ neg_ℤ (z *ℤ pos n)
 neg_times (pos zero) n = let e : zero * n ≡ zero = omega arith in rw e refl
@@ -80,23 +80,23 @@ among_rising first last k = (
 among_of : (low high k : ℤ) (n : ℕ) → Contains (multiples_between low high (pos (suc n))) k ↔ ((low ≤ℤ (k *ℤ pos (suc n))) × ((k *ℤ pos (suc n)) ≤ℤ high))
 unfolding multiples_between
 among_of low high k n =
-    let among = among_rising (ceiling_of low (pos (suc n))) (floor_of high (pos (suc n))) k in (
-      λ found. let within = among.0 found in (over_ceiling k low n within.0, under_floor k high n within.1),
-      λ within. among.1 (ceiling_below k low n within.0, floor_above k high n within.1),
+    let multiples_are_among = among_rising (ceiling_of low (pos (suc n))) (floor_of high (pos (suc n))) k in (
+      λ found. let within = multiples_are_among.0 found in (over_ceiling k low n within.0, under_floor k high n within.1),
+      λ within. multiples_are_among.1 (ceiling_below k low n within.0, floor_above k high n within.1),
     )
 
-pub among : (low high s k : ℤ) → pos 0 <ℤ s → Contains (multiples_between low high s) k ↔ ((low ≤ℤ (k *ℤ s)) × ((k *ℤ s) ≤ℤ high))
-among low high (pos zero) k lt = absurd (omega (arith, ints))
-among low high (pos (suc n)) k lt = among_of low high k n
-among low high (negsuc n) k lt = absurd (omega (arith, ints))
+pub multiples_are_among : (low high s k : ℤ) → pos 0 <ℤ s → Contains (multiples_between low high s) k ↔ ((low ≤ℤ (k *ℤ s)) × ((k *ℤ s) ≤ℤ high))
+multiples_are_among low high (pos zero) k lt = absurd (omega (arith, ints))
+multiples_are_among low high (pos (suc n)) k lt = among_of low high k n
+multiples_are_among low high (negsuc n) k lt = absurd (omega (arith, ints))
 
 rises_from : (k : ℤ) (n i j : ℕ) (d : ℤ) → i < j → j < n → get_or (rising k n) i d <ℤ get_or (rising k n) j d
 rises_from k n i j d lt within =
     rw (get_or-rising k n i d (omega arith), get_or-rising k n j d within) (omega (arith, ints))
 
-pub rises : (low high s : ℤ) (i j : ℕ) (d : ℤ) → i < j → j < length (multiples_between low high s)
+pub multiples_rise : (low high s : ℤ) (i j : ℕ) (d : ℤ) → i < j → j < length (multiples_between low high s)
     → get_or (multiples_between low high s) i d <ℤ get_or (multiples_between low high s) j d
 unfolding multiples_between
-rises low high s i j d lt within =
+multiples_rise low high s i j d lt within =
     let n : ℕ = count_between (ceiling_of low s) (floor_of high s) in
     rises_from (ceiling_of low s) n i j d lt (subst (λ m. j < m) (length-rising (ceiling_of low s) n) within)

@@ -10,16 +10,16 @@ use Rattle.tk_geom.specs.Pieces.{difference_of}
 not_zero : (n : ℕ) → n ≢ 0 → eqb n 0 ≡ false
 not_zero n ne = grind (arith, nat_tests)
 
-pub none : (m : Matrix) (c : Point) (a b rx ry : ℤ) → piece_count a b ≡ 0 → arc_pieces m c a b rx ry ≡ Ok []
+pub no_pieces_no_arc : (m : Matrix) (c : Point) (a b rx ry : ℤ) → piece_count a b ≡ 0 → arc_pieces m c a b rx ry ≡ Ok []
 unfolding arc_pieces
-none m c a b rx ry e = rw e refl
+no_pieces_no_arc m c a b rx ry e = rw e refl
 
-pub some : (m : Matrix) (c centre first : Point) (a b rx ry : ℤ) (n : ℕ) → n ≡ piece_count a b → n ≢ 0 → spoke m rx ry a ≡ Ok first
+pub pieces_of_an_arc : (m : Matrix) (c centre first : Point) (a b rx ry : ℤ) (n : ℕ) → n ≡ piece_count a b → n ≢ 0 → spoke m rx ry a ≡ Ok first
     → centre ≡ difference_of c first → arc_pieces m c a b rx ry ≡ arc_round m centre a b rx ry n
 unfolding arc_pieces
-some m c centre first a b rx ry n count ne found at = rw (← count, not_zero n ne, found, at) refl
+pieces_of_an_arc m c centre first a b rx ry n count ne found at = rw (← count, not_zero n ne, found, at) refl
 
-pub faulty : (m : Matrix) (c : Point) (a b rx ry : ℤ) (n : ℕ) (fault : AffFault) → n ≡ piece_count a b → n ≢ 0 → spoke m rx ry a ≡ Err fault
+pub faulty_spoke : (m : Matrix) (c : Point) (a b rx ry : ℤ) (n : ℕ) (fault : AffFault) → n ≡ piece_count a b → n ≢ 0 → spoke m rx ry a ≡ Err fault
     → arc_pieces m c a b rx ry ≡ Err fault
 unfolding arc_pieces
-faulty m c a b rx ry n fault count ne found = rw (← count, not_zero n ne, found) refl
+faulty_spoke m c a b rx ry n fault count ne found = rw (← count, not_zero n ne, found) refl

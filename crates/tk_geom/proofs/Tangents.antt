@@ -41,15 +41,15 @@ sines_from_67_are_at_least_that n low high =
 
 -- ---- between two degrees
 
-between : (low high part : ℕ) → low ≤ high → part < 65536 → low + (high - low) * part / 65536 ≤ high
-between low high part le lt =
+sine_between_is_between : (low high part : ℕ) → low ≤ high → part < 65536 → low + (high - low) * part / 65536 ≤ high
+sine_between_is_between low high part le lt =
     let m = mul-le-mul_left (high - low) (let l : part ≤ 65536 = omega arith in l) in
     let d = div-le_of_le-mul 65536 {m = (high - low) * part} {n = high - low} (omega (arith, m)) in
     omega (arith, d)
 
 quarter_most : (a : ℕ) → a ≤ 1474560 → quarter_sine a ≤ 25607
 quarter_most a le =
-    let b = between (get_or sines (a / 65536) 0) (get_or sines (a / 65536 + 1) 0) (a % 65536) (sines_rise (a / 65536) (omega arith)) (omega arith) in
+    let b = sine_between_is_between (get_or sines (a / 65536) 0) (get_or sines (a / 65536 + 1) 0) (a % 65536) (sines_rise (a / 65536) (omega arith)) (omega arith) in
     let m = sines_to_23_are_at_most_that (a / 65536 + 1) (omega arith) in
     omega (arith, b, m)
 

@@ -21,8 +21,8 @@ between_from a b (negsuc t) i n la lb e le =
     let m = part_most (suc t) i n le in
     rw (quotient_of_neg (suc t * i) n) (omega (arith, ints))
 
-pub between : (a b : ℤ) (i n : ℕ) → IsScaled a → IsScaled b → i ≤ n → IsScaled (a +ℤ int_div ((b -ℤ a) *ℤ pos i) (pos n))
-between a b i n la lb le = between_from a b (b -ℤ a) i n la lb refl le
+pub angle_between_is_scaled : (a b : ℤ) (i n : ℕ) → IsScaled a → IsScaled b → i ≤ n → IsScaled (a +ℤ int_div ((b -ℤ a) *ℤ pos i) (pos n))
+angle_between_is_scaled a b i n la lb le = between_from a b (b -ℤ a) i n la lb refl le
 
 -- all n of n parts are the whole
 whole_of : (z : ℤ) (n : ℕ) → 1 ≤ n → int_div (z *ℤ pos n) (pos n) ≡ z
@@ -38,14 +38,14 @@ pub angle_is : (x y a b q : ℤ) (i n : ℕ) → x ≡ a → y ≡ b → IsScale
 angle_is x y a b q i n e h lx ly le eq =
     let turn : in64 (in64 y -ℤ in64 x) ≡ y -ℤ x = omega (arith, ints) in
     let part : q ≡ int_div ((y -ℤ x) *ℤ pos i) (pos n) = eq ∙ ap (λ z. int_div (z *ℤ pos i) (pos n)) turn in
-    let within : IsScaled (x +ℤ q) = rw part (between x y i n lx ly le) in
+    let within : IsScaled (x +ℤ q) = rw part (angle_between_is_scaled x y i n lx ly le) in
     let sum : in64 (in64 x +ℤ in64 q) ≡ x +ℤ q = omega (arith, ints) in
     sum ∙ ap (λ z. x +ℤ z) part ∙ ap (λ z. z +ℤ int_div ((y -ℤ z) *ℤ pos i) (pos n)) e ∙ ap (λ z. a +ℤ int_div ((z -ℤ a) *ℤ pos i) (pos n)) h
 
 pub angle_fits : (x y a b q : ℤ) (i n : ℕ) → x ≡ a → y ≡ b → IsScaled x → IsScaled y → i ≤ n → q ≡ int_div (in64 (in64 y -ℤ in64 x) *ℤ pos i) (pos n)
     → IsScaled (in64 (in64 x +ℤ in64 q))
 angle_fits x y a b q i n e h lx ly le eq =
-    subst IsScaled (sym (angle_is x y a b q i n e h lx ly le eq)) (between a b i n (subst IsScaled e lx) (subst IsScaled h ly) le)
+    subst IsScaled (sym (angle_is x y a b q i n e h lx ly le eq)) (angle_between_is_scaled a b i n (subst IsScaled e lx) (subst IsScaled h ly) le)
 
 -- four thirds of a small number, as they are computed
 pub four_thirds : (x z : ℤ) → x ≡ z → unsigned_abs z ≤ 32768 → in64 (int_div (in64 (pos 4 *ℤ in64 x)) (pos 3)) ≡ int_div (pos 4 *ℤ z) (pos 3)

@@ -27,19 +27,19 @@ pub in_place : (desk : OnDesk) (place : ℕ) (name : List ℕ) → find_file des
 in_place desk place name h = (position-Some (λ file. bytes_eq file.0 name) desk.files place ([], []) h).0
 
 -- and it has that name
-pub named : (desk : OnDesk) (place : ℕ) (name : List ℕ) → find_file desk name ≡ Some place → (file_at desk place).0 ≡ name
-named desk place name h = (bytes_eq-Decides (file_at desk place).0 name).0 (position-Some (λ file. bytes_eq file.0 name) desk.files place ([], []) h).1
+pub found_file_has_its_name : (desk : OnDesk) (place : ℕ) (name : List ℕ) → find_file desk name ≡ Some place → (file_at desk place).0 ≡ name
+found_file_has_its_name desk place name h = (bytes_eq-Decides (file_at desk place).0 name).0 (position-Some (λ file. bytes_eq file.0 name) desk.files place ([], []) h).1
 
 -- a test of a name that came out
-tested : (name : List ℕ) (b : Bool) → bytes_eq name standard_input ≡ b → Decides b (name ≡ standard_input)
-tested name b e = subst (λ (b : Bool). Decides b (name ≡ standard_input)) e (bytes_eq-Decides name standard_input)
+is_standard_input_decides : (name : List ℕ) (b : Bool) → bytes_eq name standard_input ≡ b → Decides b (name ≡ standard_input)
+is_standard_input_decides name b e = subst (λ (b : Bool). Decides b (name ≡ standard_input)) e (bytes_eq-Decides name standard_input)
 
 -- a desk keeps its rule where a file is opened
 pub IsDesk-opened : (desk : OnDesk) (place taken : ℕ) (b : Bool) → IsDesk desk → find_file desk (file_at desk place).0 ≡ Some place → bytes_eq (file_at desk place).0 standard_input ≡ b → IsDesk (record desk { current = Some place; at = if b then desk.input else 0; taken = taken })
 IsDesk-opened desk place taken b is here e = record {
   first = λ p same. let at_p : place ≡ p = cc in subst (λ (p : ℕ). find_file desk (file_at desk p).0 ≡ Some p) at_p here;
-  within = λ p same. let at_p : place ≡ p = cc in subst (λ (p : ℕ). (if b then desk.input else 0) ≤ length (file_at desk p).1) at_p (within b (tested (file_at desk place).0 b e));
-  input = λ p same name. let at_p : place ≡ p = cc in input b (tested (file_at desk place).0 b e) (ap (λ (p : ℕ). (file_at desk p).0) at_p ∙ name);
+  within = λ p same. let at_p : place ≡ p = cc in subst (λ (p : ℕ). (if b then desk.input else 0) ≤ length (file_at desk p).1) at_p (within b (is_standard_input_decides (file_at desk place).0 b e));
+  input = λ p same name. let at_p : place ≡ p = cc in input b (is_standard_input_decides (file_at desk place).0 b e) (ap (λ (p : ℕ). (file_at desk p).0) at_p ∙ name);
   input_within = is.input_within;
 }
   where
@@ -56,8 +56,8 @@ pub IsDesk-moved : (desk : OnDesk) (place n taken : ℕ) (b : Bool) → IsDesk d
 IsDesk-moved desk place n taken b is here e fits = record {
   first = is.first;
   within = λ p same. let at_p : place ≡ p = cc in subst (λ (p : ℕ). desk.at + n ≤ length (file_at desk p).1) at_p (omega (arith, fits, is.within place here));
-  input = λ p same name. let at_p : place ≡ p = cc in input b (tested (file_at desk place).0 b e) (ap (λ (p : ℕ). (file_at desk p).0) at_p ∙ name);
-  input_within = input_within b (tested (file_at desk place).0 b e);
+  input = λ p same name. let at_p : place ≡ p = cc in input b (is_standard_input_decides (file_at desk place).0 b e) (ap (λ (p : ℕ). (file_at desk p).0) at_p ∙ name);
+  input_within = input_within b (is_standard_input_decides (file_at desk place).0 b e);
 }
   where
     input : (b : Bool) → Decides b ((file_at desk place).0 ≡ standard_input) → (file_at desk place).0 ≡ standard_input → desk.at + n ≡ (if b then desk.at + n else desk.input)

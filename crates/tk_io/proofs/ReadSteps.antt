@@ -151,12 +151,12 @@ there_at name old now bytes C so =
     absurd (told_at old.holds (λ holds. holds name ≡ None → old.sure ≡ false → ⊥) holds e so.there gone unsure))
 
 -- a file that is too long is refused, whatever the refusal
-refused : (old : Shelved) (name : List ℕ) → IfSome old.holds (λ holds. 16777216 < length (unwrap_or (holds name) []) → true ≡ true)
-refused old name = told_by old.holds (λ holds. 16777216 < length (unwrap_or (holds name) []) → true ≡ true) (λ holds e long. refl)
+too_long_is_refused : (old : Shelved) (name : List ℕ) → IfSome old.holds (λ holds. 16777216 < length (unwrap_or (holds name) []) → true ≡ true)
+too_long_is_refused old name = told_by old.holds (λ holds. 16777216 < length (unwrap_or (holds name) []) → true ≡ true) (λ holds e long. refl)
 
 -- the front of a buffer was appended
-pub appended : (new bytes buffer rest : List ℕ) (n : ℕ) → n ≤ length buffer → new ≡ bytes ++ take n (buffer ++ rest) → new ≡ bytes ++ take n buffer
-appended new bytes buffer rest n fits is = is ∙ ap (λ (w : List ℕ). bytes ++ w) (take-append-le n buffer rest fits)
+pub taken_bytes_appended : (new bytes buffer rest : List ℕ) (n : ℕ) → n ≤ length buffer → new ≡ bytes ++ take n (buffer ++ rest) → new ≡ bytes ++ take n buffer
+taken_bytes_appended new bytes buffer rest n fits is = is ∙ ap (λ (w : List ℕ). bytes ++ w) (take-append-le n buffer rest fits)
 
 -- a read of nothing was the end
 pub ReadsAll-end : (name : List ℕ) (old mid new : Shelved) (bytes buffer : List ℕ) → SoFar name old bytes mid → Reads name mid new (Ok 0) buffer → length bytes ≤ 16777216 → 0 < length buffer → ReadsAll name old new (Ok bytes)
@@ -226,7 +226,7 @@ ReadsAll-failed name old mid new bytes buffer failed before read = record {
   missing = there_at name old mid bytes (Err ShelfFailed ≡ Err ShelfFailed) before;
   too_many = λ e. cc;
   too_long = λ e. cc;
-  long = refused old name;
+  long = too_long_is_refused old name;
   leaves = elim (by_name name) [
     | inl is ↦ input_read is (subst (λ (k : ℕ). LeavesOfInput (drop k) old new) (sym (read.none_taken ∙ before.taken)) (rest_left name old mid new (length bytes) is before.others read.input left_so))
     | inr other ↦ all_kept (read.holds other ∙ before.holds other)
@@ -253,7 +253,7 @@ ReadsAll-no_memory name old now bytes so = record {
   missing = there_at name old now bytes (Err OutOfMemory ≡ Err ShelfFailed) so;
   too_many = λ e. cc;
   too_long = λ e. cc;
-  long = refused old name;
+  long = too_long_is_refused old name;
   leaves = leaves_of name old now bytes so;
   emptied = λ _. tt;
   long_input = λ _ e. cc;
@@ -275,7 +275,7 @@ ReadsAll-too_long name old now bytes so long = record {
   too_long = λ e. told_by old.holds (λ holds. 16777216 < length (unwrap_or (holds name) [])) (λ holds h.
       let front = told_at old.holds (λ holds. bytes ≡ take (length bytes) (unwrap_or (holds name) [])) holds h so.front in
       omega (arith, ap length front, length-take (length bytes) (unwrap_or (holds name) []), long));
-  long = refused old name;
+  long = too_long_is_refused old name;
   leaves = leaves_of name old now bytes so;
   emptied = λ _. tt;
   long_input = λ is _. subst (λ (k : ℕ). LeavesOfInput (drop k) old now) long (so.moved is (omega (arith, long)));

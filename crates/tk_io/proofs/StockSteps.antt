@@ -14,7 +14,7 @@ use Rattle.tk_io.specs.Causes.{count_on, is_listed}
 use Rattle.tk_io.specs.Shelf.{Counts, Opens, Reads, HandsOut, standard_input, with_input}
 use Rattle.tk_io.specs.Desk.{OnDesk, IsDesk, file_at, find_file, start_at, bytes_under, is_current, opened_at, moved_on}
 use Rattle.tk_io.specs.Stock.{Stock, stock_means, count_at, called, blamed, OpensStock, ReadsStock}
-use Rattle.tk_io.proofs.DeskFiles.{in_place, named}
+use Rattle.tk_io.proofs.DeskFiles.{in_place, found_file_has_its_name}
 
 -- of two numbers the first, where a test came out so
 pub if_true : {A : Type 0} (b : Bool) (P : Type 0) (x y : A) → Decides b P → P → (if b then x else y) ≡ x
@@ -35,12 +35,12 @@ bytes_under-input desk place m here = fun_ext (λ n. by_test n (bytes_eq n stand
     at_input : (n : List ℕ) → n ≡ standard_input → bytes_under (record desk { input = m }) n ≡ Some (drop m (file_at desk place).1)
     at_input n is =
         ap (λ (o : Option ℕ). option_map (λ p. drop (start_at (record desk { input = m }) p) (file_at desk p).1) o) (ap (find_file desk) is ∙ here)
-        ∙ ap (λ (k : ℕ). Some (drop k (file_at desk place).1)) (if_true (bytes_eq (file_at desk place).0 standard_input) ((file_at desk place).0 ≡ standard_input) m 0 (bytes_eq-Decides (file_at desk place).0 standard_input) (named desk place standard_input here))
+        ∙ ap (λ (k : ℕ). Some (drop k (file_at desk place).1)) (if_true (bytes_eq (file_at desk place).0 standard_input) ((file_at desk place).0 ≡ standard_input) m 0 (bytes_eq-Decides (file_at desk place).0 standard_input) (found_file_has_its_name desk place standard_input here))
 
     other : (n : List ℕ) → (n ≡ standard_input → ⊥) → (q : Option ℕ) → find_file desk n ≡ q → option_map (λ p. drop (start_at (record desk { input = m }) p) (file_at desk p).1) q ≡ option_map (λ p. drop (start_at desk p) (file_at desk p).1) q
     other n not None e = refl
     other n not (Some p) e =
-        let name : (file_at desk p).0 ≡ standard_input → ⊥ = λ is. not (sym (named desk p n e) ∙ is) in
+        let name : (file_at desk p).0 ≡ standard_input → ⊥ = λ is. not (sym (found_file_has_its_name desk p n e) ∙ is) in
         let test = bytes_eq-Decides (file_at desk p).0 standard_input in
         ap (λ (k : ℕ). Some (drop k (file_at desk p).1)) (if_false (bytes_eq (file_at desk p).0 standard_input) ((file_at desk p).0 ≡ standard_input) m 0 test name ∙ sym (if_false (bytes_eq (file_at desk p).0 standard_input) ((file_at desk p).0 ≡ standard_input) desk.input 0 test name))
 
@@ -49,16 +49,16 @@ bytes_under-input desk place m here = fun_ext (λ n. by_test n (bytes_eq n stand
     by_test n false d = other n (λ is. false≢true (d.1 is)) (find_file desk n) refl
 
 -- the count that goes up
-rises : (stock : Stock) (place : Option ℕ) → ((p : ℕ) → place ≡ Some p → p < length stock.faults) → count_on (count_at stock place) 1 ≤ count_at (blamed place stock) place
-rises stock None fits = omega arith
-rises stock (Some p) fits = omega (arith, get_or-set_same stock.faults p (count_on (slice_index stock.faults p) 1) 0 (fits p refl))
+counts_rise : (stock : Stock) (place : Option ℕ) → ((p : ℕ) → place ≡ Some p → p < length stock.faults) → count_on (count_at stock place) 1 ≤ count_at (blamed place stock) place
+counts_rise stock None fits = omega arith
+counts_rise stock (Some p) fits = omega (arith, get_or-set_same stock.faults p (count_on (slice_index stock.faults p) 1) 0 (fits p refl))
 
 -- the count of another file stays
-stays : (stock : Stock) (name n : List ℕ) (place of : Option ℕ) → find_file stock.desk name ≡ place → find_file stock.desk n ≡ of → (of ≡ None → ⊥) → n ≢ name → count_at (blamed place stock) of ≡ count_at stock of
-stays stock name n place None here there has other = absurd (has refl)
-stays stock name n None (Some q) here there has other = refl
-stays stock name n (Some p) (Some q) here there has other =
-    get_or-set_other stock.faults p q (count_on (slice_index stock.faults p) 1) 0 (λ (same : q ≡ p). other (sym (named stock.desk q n there) ∙ ap (λ (k : ℕ). (file_at stock.desk k).0) same ∙ named stock.desk p name here))
+other_counts_stay : (stock : Stock) (name n : List ℕ) (place of : Option ℕ) → find_file stock.desk name ≡ place → find_file stock.desk n ≡ of → (of ≡ None → ⊥) → n ≢ name → count_at (blamed place stock) of ≡ count_at stock of
+other_counts_stay stock name n place None here there has other = absurd (has refl)
+other_counts_stay stock name n None (Some q) here there has other = refl
+other_counts_stay stock name n (Some p) (Some q) here there has other =
+    get_or-set_other stock.faults p q (count_on (slice_index stock.faults p) 1) 0 (λ (same : q ≡ p). other (sym (found_file_has_its_name stock.desk q n there) ∙ ap (λ (k : ℕ). (file_at stock.desk k).0) same ∙ found_file_has_its_name stock.desk p name here))
 
 -- what a fault of a name does to the counts
 Counts-blamed : (name : List ℕ) (stock : Stock) (current : Option ℕ) (taken : ℕ) (place : Option ℕ) → find_file stock.desk name ≡ place
@@ -66,12 +66,12 @@ Counts-blamed : (name : List ℕ) (stock : Stock) (current : Option ℕ) (taken 
     → Counts name (stock_means stock) (stock_means (blamed place (called stock (record stock.desk { current = current; taken = taken }))))
 Counts-blamed name stock current taken None here no_fall = record {
   no_fall = λ n. no_fall (find_file stock.desk n);
-  others = λ n has other. stays stock name n None (find_file stock.desk n) here refl (λ none. has (ap (λ (o : Option ℕ). option_map (λ p. drop (start_at stock.desk p) (file_at stock.desk p).1) o) none)) other;
+  others = λ n has other. other_counts_stay stock name n None (find_file stock.desk n) here refl (λ none. has (ap (λ (o : Option ℕ). option_map (λ p. drop (start_at stock.desk p) (file_at stock.desk p).1) o) none)) other;
   sure = refl;
 }
 Counts-blamed name stock current taken (Some place) here no_fall = record {
   no_fall = λ n. no_fall (find_file stock.desk n);
-  others = λ n has other. stays stock name n (Some place) (find_file stock.desk n) here refl (λ none. has (ap (λ (o : Option ℕ). option_map (λ p. drop (start_at stock.desk p) (file_at stock.desk p).1) o) none)) other;
+  others = λ n has other. other_counts_stay stock name n (Some place) (find_file stock.desk n) here refl (λ none. has (ap (λ (o : Option ℕ). option_map (λ p. drop (start_at stock.desk p) (file_at stock.desk p).1) o) none)) other;
   sure = refl;
 }
 
@@ -82,8 +82,8 @@ Opens-opened name stock place here = record {
   cause = tt;
   sure = λ _. refl;
   missing = λ none _. (let gone : Some (drop (start_at stock.desk place) (file_at stock.desk place).1) ≡ None = ap (λ (o : Option ℕ). option_map (λ p. drop (start_at stock.desk p) (file_at stock.desk p).1) o) (sym here) ∙ none in cc);
-  opened = (bytes_eq-Decides (file_at stock.desk place).0 name).1 (named stock.desk place name here);
-  only = λ n is _. sym ((bytes_eq-Decides (file_at stock.desk place).0 n).0 is) ∙ named stock.desk place name here;
+  opened = (bytes_eq-Decides (file_at stock.desk place).0 name).1 (found_file_has_its_name stock.desk place name here);
+  only = λ n is _. sym ((bytes_eq-Decides (file_at stock.desk place).0 n).0 is) ∙ found_file_has_its_name stock.desk place name here;
   closed = tt;
   left = ap (λ (o : Option ℕ). Some (unwrap_or (option_map (λ p. drop (start_at stock.desk p) (file_at stock.desk p).1) o) [])) (sym here);
   taken = refl;
@@ -96,7 +96,7 @@ pub Opens-failed : (name : List ℕ) (stock : Stock) (failed : Failed) (place : 
     → Opens name (stock_means stock) (stock_means (blamed place (called stock (record stock.desk { current = None; taken = 0 })))) (Err failed)
 Opens-failed name stock failed None here fits no_fall = record {
   counts = Counts-blamed name stock None 0 None here no_fall;
-  cause = subst (λ (o : Option ℕ). count_on (count_at stock o) 1 ≤ count_at (blamed None stock) o) (sym here) (rises stock None fits);
+  cause = subst (λ (o : Option ℕ). count_on (count_at stock o) 1 ≤ count_at (blamed None stock) o) (sym here) (counts_rise stock None fits);
   sure = λ never. cc;
   missing = λ none unsure. refl;
   opened = tt;
@@ -108,7 +108,7 @@ Opens-failed name stock failed None here fits no_fall = record {
 }
 Opens-failed name stock failed (Some place) here fits no_fall = record {
   counts = Counts-blamed name stock None 0 (Some place) here no_fall;
-  cause = subst (λ (o : Option ℕ). count_on (count_at stock o) 1 ≤ count_at (blamed (Some place) stock) o) (sym here) (rises stock (Some place) fits);
+  cause = subst (λ (o : Option ℕ). count_on (count_at stock o) 1 ≤ count_at (blamed (Some place) stock) o) (sym here) (counts_rise stock (Some place) fits);
   sure = λ never. cc;
   missing = λ none unsure. refl;
   opened = tt;
@@ -162,7 +162,7 @@ pub Reads-failed : (name : List ℕ) (stock : Stock) (failed : Failed) (place : 
     → Reads name (stock_means stock) (stock_means (blamed (Some place) (called stock stock.desk))) (Err failed) buffer
 Reads-failed name stock failed place buffer is fits e open_ no_fall = record {
   counts = Counts-blamed name stock stock.desk.current stock.desk.taken (Some place) here no_fall;
-  cause = subst (λ (o : Option ℕ). count_on (count_at stock o) 1 ≤ count_at (blamed (Some place) stock) o) (sym here) (rises stock (Some place) (λ p same. let at_p : place ≡ p = cc in subst (λ (p : ℕ). p < length stock.faults) at_p fits));
+  cause = subst (λ (o : Option ℕ). count_on (count_at stock o) 1 ≤ count_at (blamed (Some place) stock) o) (sym here) (counts_rise stock (Some place) (λ p same. let at_p : place ≡ p = cc in subst (λ (p : ℕ). p < length stock.faults) at_p fits));
   sure = λ never. cc;
   is_open = refl;
   bound = tt;

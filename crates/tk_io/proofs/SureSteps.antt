@@ -12,7 +12,7 @@ use Rattle.tk_io.specs.declared.sure.Absent.TheVariants.{Nothing, Input, Other}
 use Rattle.tk_io.specs.Shelf.{Opens, Reads, HandsOut, standard_input, with_input}
 use Rattle.tk_io.specs.Desk.{OnDesk, IsDesk, file_at, find_file, start_at, bytes_under, is_current, opened_at, moved_on}
 use Rattle.tk_io.specs.SureShelf.{Sure, IsSure, sure_holds, sure_means, sure_open}
-use Rattle.tk_io.proofs.DeskFiles.{named}
+use Rattle.tk_io.proofs.DeskFiles.{found_file_has_its_name}
 use Rattle.tk_io.proofs.StockSteps.{if_true, if_false, bytes_under-input, is_named}
 
 -- once so many bytes of standard input are behind, the shelf has what is left of them
@@ -32,8 +32,8 @@ Sure-opened name shelf place here = record {
   cause = tt;
   sure = λ _. refl;
   missing = λ none unsure. cc;
-  opened = (bytes_eq-Decides (file_at shelf.desk place).0 name).1 (named shelf.desk place name here);
-  only = λ n is _. sym ((bytes_eq-Decides (file_at shelf.desk place).0 n).0 is) ∙ named shelf.desk place name here;
+  opened = (bytes_eq-Decides (file_at shelf.desk place).0 name).1 (found_file_has_its_name shelf.desk place name here);
+  only = λ n is _. sym ((bytes_eq-Decides (file_at shelf.desk place).0 n).0 is) ∙ found_file_has_its_name shelf.desk place name here;
   closed = tt;
   left = ap (λ (o : Option ℕ). Some (unwrap_or (option_or (option_map (λ p. drop (start_at shelf.desk p) (file_at shelf.desk p).1) o) (if bytes_eq name standard_input then Some [] else None)) [])) (sym here);
   taken = refl;

@@ -17,8 +17,8 @@ use Rattle.tk_item.specs.Frame.{points_of_path, points_of_piece, box_round, join
 
 -- ---- one box within another
 
-itself : (f : Frame) → IsWithin f f
-itself f = record { left = omega (arith, ints); bottom = omega (arith, ints); right = omega (arith, ints); top = omega (arith, ints) }
+frame_within_itself : (f : Frame) → IsWithin f f
+frame_within_itself f = record { left = omega (arith, ints); bottom = omega (arith, ints); right = omega (arith, ints); top = omega (arith, ints) }
 
 in_turn : (f g h : Frame) → IsWithin f g → IsWithin g h → IsWithin f h
 in_turn f g h a b = record { left = omega (arith, ints); bottom = omega (arith, ints); right = omega (arith, ints); top = omega (arith, ints) }
@@ -38,8 +38,8 @@ abbrev inside : Frame → Frame → Type 0
 inside frame box = IsWithin box frame
 
 -- the least box round the join of two and others is the least round the two and the others
-parted : (f g : Frame) (boxes : List Frame) (h : Frame) → IsLeastRound (joined f g ∷ boxes) h → IsLeastRound (f ∷ g ∷ boxes) h
-parted f g boxes h is = record {
+least_round_parted : (f g : Frame) (boxes : List Frame) (h : Frame) → IsLeastRound (joined f g ∷ boxes) h → IsLeastRound (f ∷ g ∷ boxes) h
+least_round_parted f g boxes h is = record {
   round =
       let both : IsWithin (joined f g) h = All-head (inside h) (joined f g) boxes is.round in
       let rest : AreWithin boxes h = All-tail (inside h) (joined f g) boxes is.round in
@@ -52,8 +52,8 @@ parted f g boxes h is = record {
 }
 
 least_of_all : (boxes : List Frame) (f : Frame) → IfSome (round_boxes (Some f) boxes) (IsLeastRound (f ∷ boxes))
-least_of_all [] f = record { round = All-cons (inside f) f [] (itself f) (All-nil (inside f)); least = λ other all. All-head (inside other) f [] all }
-least_of_all (g ∷ boxes) f = IfSome_then (round_boxes (Some (joined f g)) boxes) (least_of_all boxes (joined f g)) (parted f g boxes)
+least_of_all [] f = record { round = All-cons (inside f) f [] (frame_within_itself f) (All-nil (inside f)); least = λ other all. All-head (inside other) f [] all }
+least_of_all (g ∷ boxes) f = IfSome_then (round_boxes (Some (joined f g)) boxes) (least_of_all boxes (joined f g)) (least_round_parted f g boxes)
 
 -- what is folded from boxes is the least box round them
 pub least_round : (frame : Option Frame) (boxes : List Frame) → IfSome (round_boxes frame boxes) (IsLeastRound (option_to_list frame ++ boxes))

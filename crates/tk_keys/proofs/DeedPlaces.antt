@@ -20,7 +20,7 @@ use Rattle.tk_store.specs.declared.Run.TheVariants as runs
 use Rattle.tk_expand.specs.Arguments.{arguments_of, with_arguments}
 use Rattle.tk_expand.specs.Expand.{Stream, stream, full, cost_of, pay}
 use Rattle.tk_expand.specs.Unread.{unread}
-use Rattle.tk_expand.proofs.Falling.{paid}
+use Rattle.tk_expand.proofs.Falling.{paid_units_are_within}
 use Rattle.tk_expand.proofs.Places.{StandAt, Stands, StreamAt, ArgumentsAt, arguments_at, with_arguments_at, full_at}
 use Rattle.tk_keytext.specs.declared.Handler.{Handler}
 use Rattle.tk_keytext.specs.declared.Handler.TheVariants.{Cd, Code as CodeHandler, CodeTwo, Style, StyleTwo, AppendStyle, PrefixStyle, Default as DefaultHandler, ValueRequired as RequiredHandler, ValueForbidden as ForbiddenHandler, Initial, IsChoice, StoreIn, Try}
@@ -141,7 +141,7 @@ module _ (P : ℕ → Type 0) where
     code_text_at at args body value units p h k =
         then_at P (AllByRecursion (StandAt P)) (CodeAt units) (code_arguments at args value) _ (code_arguments_at at args value p k) (λ arguments l.
         let text = with_arguments arguments body in
-        then_at P (λ now. Unit {0} × ((now ≡ units + cost_of text) × (now ≤ given.budget))) (CodeAt units) (pay given.budget units (cost_of text) at) _ (both_at P (λ _. Unit {0}) (λ now. (now ≡ units + cost_of text) × (now ≤ given.budget)) (pay given.budget units (cost_of text) at) (paid_at given.budget units (cost_of text) at p) (paid given.budget units (cost_of text) at)) (λ now m.
+        then_at P (λ now. Unit {0} × ((now ≡ units + cost_of text) × (now ≤ given.budget))) (CodeAt units) (pay given.budget units (cost_of text) at) _ (both_at P (λ _. Unit {0}) (λ now. (now ≡ units + cost_of text) × (now ≤ given.budget)) (pay given.budget units (cost_of text) at) (paid_at given.budget units (cost_of text) at p) (paid_units_are_within given.budget units (cost_of text) at)) (λ now m.
         let spent = m.1.0 in
         record { text = with_arguments_at P arguments body l h; spent = omega arith; within = m.1.1 }))
 
@@ -171,8 +171,8 @@ module _ (P : ℕ → Type 0) where
     run_stands at name runs.Choice value s p h k env = p
     run_stands at name (runs.StoreIn word) value s p h k env = done_at given.budget s (with_text s word (unwrap_or value [])) (text_set_at s word (unwrap_or value []) env (or_empty_at value k))
     run_stands at name (runs.Code args body) value s p h k env =
-        then_at P (CodeAt s.units) (DeedAt given.budget s) (code_text given.budget at args body value s.units) _ (code_text_at at args body value s.units p h k) (λ paid m.
-        record { now = paid_later s paid.units (let l = m.spent in omega arith) env; text = (m.text, (m.spent, m.within)) })
+        then_at P (CodeAt s.units) (DeedAt given.budget s) (code_text given.budget at args body value s.units) _ (code_text_at at args body value s.units p h k) (λ paid_units_are_within m.
+        record { now = paid_later s paid_units_are_within.units (let l = m.spent in omega arith) env; text = (m.text, (m.spent, m.within)) })
 
     run_at_stands : (env : Env) (path : List ℕ) → EnvAt P env → IfSome (run_at env path) (RunAt P)
     run_at_stands env path h = by (map.get env.keys path) (known_entry P env.keys path h.entries)
@@ -236,7 +236,7 @@ module _ (P : ℕ → Type 0) where
     PaidFrom before now = before ≤ now
 
     code_paid_at : (at : ℕ) (run : Option Run) (units : ℕ) → P at → Stands P (PaidFrom units) (code_paid given at run units)
-    code_paid_at at (Some (runs.Code args body)) units p = by (pay given.budget units (cost_of body) at) (paid_at given.budget units (cost_of body) at p) (paid given.budget units (cost_of body) at)
+    code_paid_at at (Some (runs.Code args body)) units p = by (pay given.budget units (cost_of body) at) (paid_at given.budget units (cost_of body) at p) (paid_units_are_within given.budget units (cost_of body) at)
       where
         by : (m : Answer ℕ) → Stands P (λ _. Unit {0}) m → IfOk m (λ now. (now ≡ units + cost_of body) × (now ≤ given.budget)) → Stands P (PaidFrom units) m
         by (Ok now) h k = (let e = k.0 in omega arith)

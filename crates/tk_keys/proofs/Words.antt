@@ -31,8 +31,8 @@ still_there (w ∷ ws) us zero word e = e
 still_there (w ∷ ws) us (suc n) word e = still_there ws us n word e
 
 -- a word stays where it is
-stays : (old new : List (List ℕ)) (more word : List ℕ) (n : ℕ) → new ≡ with_word old more → slice_get old n ≡ Some word → slice_get new n ≡ Some word
-stays old new more word n is e =
+word_stays_at_its_number : (old new : List (List ℕ)) (more word : List ℕ) (n : ℕ) → new ≡ with_word old more → slice_get old n ≡ Some word → slice_get new n ≡ Some word
+word_stays_at_its_number old new more word n is e =
     let x = with_word_extends old more in
     ap (λ (ws : List (List ℕ)). slice_get ws n) (is ∙ x.1) ∙ still_there old x.0 n word e
 
@@ -69,7 +69,7 @@ pub numbers_made : (w1 w2 w3 : List (List ℕ)) (also key name : ℕ)
     → EachOnce w3
     → AreMade w3 (record { also = also; key = key; name = name })
 numbers_made w1 w2 w3 also key name a is2 k is3 n once = record {
-  also = number_of w3 once also (codes "pgfkeysalso") (stays w2 w3 (codes "pgfkeyscurrentname") (codes "pgfkeysalso") also is3 (stays w1 w2 (codes "pgfkeyscurrentkey") (codes "pgfkeysalso") also is2 a));
-  key = number_of w3 once key (codes "pgfkeyscurrentkey") (stays w2 w3 (codes "pgfkeyscurrentname") (codes "pgfkeyscurrentkey") key is3 k);
+  also = number_of w3 once also (codes "pgfkeysalso") (word_stays_at_its_number w2 w3 (codes "pgfkeyscurrentname") (codes "pgfkeysalso") also is3 (word_stays_at_its_number w1 w2 (codes "pgfkeyscurrentkey") (codes "pgfkeysalso") also is2 a));
+  key = number_of w3 once key (codes "pgfkeyscurrentkey") (word_stays_at_its_number w2 w3 (codes "pgfkeyscurrentname") (codes "pgfkeyscurrentkey") key is3 k);
   name = number_of w3 once name (codes "pgfkeyscurrentname") n;
 }

@@ -25,8 +25,8 @@ behind_some d None = refl
 behind_some d (Some ds) = refl
 
 -- one less is left after each
-pub counted : (k : ℕ) → k < 8 → 8 - k ≡ suc (8 - (k + 1))
-counted k l = omega arith
+pub dashes_left_counted : (k : ℕ) → k < 8 → 8 - k ≡ suc (8 - (k + 1))
+dashes_left_counted k l = omega arith
 
 -- none is left after eight
 pub none_left : (k : ℕ) (ts : List Tok) → 8 ≤ k → is_some (all_dashes (8 - k) ts) ≡ false

@@ -27,13 +27,13 @@ more_pieces text front rest l f r =
     ∙ ap (λ (rest : List ℕ). front ∷ pieces_between rest) (sym r)
 
 -- a name behind a share is mixed with the colour so far, and the others follow
-pub mixes : (so_far other : Rgb) (pieces share rest name : List ℕ) (more : List (List ℕ)) (percent : ℕ)
+pub share_mixes : (so_far other : Rgb) (pieces share rest name : List ℕ) (more : List (List ℕ)) (percent : ℕ)
     → pieces_between pieces ≡ share ∷ pieces_between rest
     → pieces_between rest ≡ name ∷ more
     → Some percent ≡ percentage share
     → Some other ≡ colour_named name
     → mixed_with so_far (pieces_between pieces) ≡ mixed_with (mixed percent so_far other) more
-mixes so_far other pieces share rest name more percent first second share_is name_is =
+share_mixes so_far other pieces share rest name more percent first second share_is name_is =
     ap (mixed_with so_far) (first ∙ ap (λ (ps : List (List ℕ)). share ∷ ps) second)
     ∙ ap (λ (o : Option ℕ). o and_then λ percent. colour_named name and_then λ other. mixed_with (mixed percent so_far other) more) (sym share_is)
     ∙ ap (λ (o : Option Rgb). o and_then λ other. mixed_with (mixed percent so_far other) more) (sym name_is)

@@ -11,7 +11,7 @@ use Rattle.tk_num.specs.Number.{is_point, nearest_65536th, whole_digits, part_di
 use Rattle.tk_num.specs.Text.{IsBest, places, fewest_digits, text_of}
 use Rattle.tk_num.proofs.Best.{is_best}
 use Rattle.tk_num.proofs.Chosen.{size_text, size_reads, places-size, part_passes, no_carry}
-use Rattle.tk_num.proofs.Fixed.{both, not_point, passes, are_digits, fraction_is, decimal_all, decimal_some, value-decimal}
+use Rattle.tk_num.proofs.Fixed.{and_is_both, not_point, digits_are_ascii, are_digits, fraction_is, decimal_all, decimal_some, value-decimal}
 use Rattle.tk_num.proofs.Printed.{text-pointed, text-whole}
 
 -- ---- digits with no point
@@ -19,7 +19,7 @@ use Rattle.tk_num.proofs.Printed.{text-pointed, text-whole}
 no_point : (ds : List ℕ) → list_all is_ascii_digit ds ≡ true → position_or_len is_point ds ≡ length ds
 no_point [] all = refl
 no_point (d ∷ ds) all =
-    let two = both (is_ascii_digit d) (list_all is_ascii_digit ds) all in
+    let two = and_is_both (is_ascii_digit d) (list_all is_ascii_digit ds) all in
     rw (not_point d two.0) (omega (arith, no_point ds two.1))
 
 whole-alone : (ds : List ℕ) → list_all is_ascii_digit ds ≡ true → whole_digits ds ≡ ds
@@ -39,7 +39,7 @@ whole_back : (n : ℕ) → n < 2 ^ 64 → n % 65536 ≡ 0 → n / 65536 ≤ 1073
 whole_back n lt none le =
     let w : ℕ = n / 65536 in
     let small : w < 2 ^ 64 = omega arith in
-    let all = passes (decimal w) (decimal_all w small) in
+    let all = digits_are_ascii (decimal w) (decimal_all w small) in
     let any : ltb 0 (length (decimal w) + 0) ≡ true = lt-ltb _ _ (let some = decimal_some w small in omega arith) in
     let is : is_decimal (decimal w) ≡ true = rw (whole-alone (decimal w) all, part-alone (decimal w) all, all, any) refl in
     let value : decimal_value (decimal w) ≡ n =
@@ -122,7 +122,7 @@ no_shorter n other le e = by_test (eqb (n % 65536) 0) refl
     by_test : (b : Bool) → eqb (n % 65536) 0 ≡ b → places (text_of (pos n)) ≤ places other
     by_test true t =
         let none : n % 65536 ≡ 0 = eqb-true _ _ t in
-        let all = passes (decimal (n / 65536)) (decimal_all (n / 65536) (omega arith)) in
+        let all = digits_are_ascii (decimal (n / 65536)) (decimal_all (n / 65536) (omega arith)) in
         let here : places (text_of (pos n)) ≡ 0 = ap places (sym (text-whole (pos n) none)) ∙ ap length (part-alone (decimal (n / 65536)) all) in
         omega (arith, here)
     by_test false t =

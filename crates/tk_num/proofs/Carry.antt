@@ -10,8 +10,8 @@ carried_parts i f num den q r some e =
     let whole : (65536 * i + f) * num ≡ den * (65536 * q) + (num * f + 65536 * r) = omega (arith, e) in
     sym (ap (λ n. n / den) whole ∙ mul-add-div some (65536 * q) (num * f + 65536 * r))
 
-pub carried : (i f num den : ℕ) → 0 < den → 65536 * (i * num / den) + (num * f + 65536 * (i * num % den)) / den ≡ (65536 * i + f) * num / den
-carried i f num den some = carried_parts i f num den (i * num / den) (i * num % den) some (sym (div-add-mod (i * num) den))
+pub fraction_carried : (i f num den : ℕ) → 0 < den → 65536 * (i * num / den) + (num * f + 65536 * (i * num % den)) / den ≡ (65536 * i + f) * num / den
+fraction_carried i f num den some = carried_parts i f num den (i * num / den) (i * num % den) some (sym (div-add-mod (i * num) den))
 
 pub length_fits : (i f num den : ℕ) → i ≤ 1073741823 → f < 65536 → num ≤ 14856 → (65536 * i + f) * num / den < 2 ^ 63
 length_fits i f num den whole part few =

@@ -10,15 +10,15 @@ use Rattle.std.proofs.lemmas.Int.Digits.{digits_value-lt}
 use Rattle.tk_num.specs.Number.{nearest_65536th, whole_digits, part_digits, is_decimal, decimal_value, fraction_of}
 use Rattle.tk_num.specs.Text.{IsPointed, ReadsBack, IsChosen, IsBest, ReadsAs, IsTextOf, IsPointedTextOf, distance, distance_from, places, number_without_point, fixed_digits, fewest_digits, nearest_digits, part_text, sign_text, pointed_text, text_of, is_lone_zero, without_zero}
 use Rattle.tk_num.proofs.Best.{is_best, by_count}
-use Rattle.tk_num.proofs.Fixed.{both, passes, are_digits, fixed_all, length-fixed, value-fixed, fraction-fixed, fraction_is, decimal_all, decimal_some, value-decimal, no_needless_zero, value-append, whole-joined, part-joined}
+use Rattle.tk_num.proofs.Fixed.{and_is_both, digits_are_ascii, are_digits, fixed_all, length-fixed, value-fixed, fraction-fixed, fraction_is, decimal_all, decimal_some, value-decimal, no_needless_zero, value-append, whole-joined, part-joined}
 
 -- ---- what any text with a point says
 
 pub part_passes : (text : List ℕ) → is_decimal text ≡ true → list_all is_ascii_digit (part_digits text) ≡ true
-part_passes text e = (both _ _ (both (list_all is_ascii_digit (whole_digits text)) _ e).1).0
+part_passes text e = (and_is_both _ _ (and_is_both (list_all is_ascii_digit (whole_digits text)) _ e).1).0
 
 pub whole_passes : (text : List ℕ) → is_decimal text ≡ true → list_all is_ascii_digit (whole_digits text) ≡ true
-whole_passes text e = (both (list_all is_ascii_digit (whole_digits text)) _ e).0
+whole_passes text e = (and_is_both (list_all is_ascii_digit (whole_digits text)) _ e).0
 
 -- one to five digits never come to a whole
 pub no_carry : (k d : ℕ) → 1 ≤ k → k ≤ 5 → d < 10 ^ k → nearest_65536th k d < 65536
@@ -30,8 +30,8 @@ pub record Splits (n : ℕ) (text : List ℕ) : Type 0 where
   pub part : ReadsAs (n % 65536) (places text) (digits_value 10 (part_digits text))
   pub number : number_without_point text ≡ n / 65536 * 10 ^ places text + digits_value 10 (part_digits text)
 
-pub splits : (n : ℕ) (text : List ℕ) → ReadsBack n text → Splits n text
-splits n text r =
+pub text_splits : (n : ℕ) (text : List ℕ) → ReadsBack n text → Splits n text
+text_splits n text r =
     let all = are_digits (part_digits text) (part_passes text r.pointed.digits) in
     let below : digits_value 10 (part_digits text) < 10 ^ places text = digits_value-lt 10 (part_digits text) all in
     let most : places text ≤ 5 = r.pointed.most in
@@ -69,10 +69,10 @@ abbrev pub size_text : ℕ → List ℕ
 size_text n = decimal (n / 65536) ++ 46 ∷ part_text (n % 65536)
 
 pub whole-size : (n : ℕ) → n < 2 ^ 64 → whole_digits (size_text n) ≡ decimal (n / 65536)
-whole-size n lt = whole-joined (decimal (n / 65536)) (part_text (n % 65536)) (passes _ (decimal_all (n / 65536) (omega arith)))
+whole-size n lt = whole-joined (decimal (n / 65536)) (part_text (n % 65536)) (digits_are_ascii _ (decimal_all (n / 65536) (omega arith)))
 
 pub part-size : (n : ℕ) → n < 2 ^ 64 → part_digits (size_text n) ≡ part_text (n % 65536)
-part-size n lt = part-joined (decimal (n / 65536)) (part_text (n % 65536)) (passes _ (decimal_all (n / 65536) (omega arith)))
+part-size n lt = part-joined (decimal (n / 65536)) (part_text (n % 65536)) (digits_are_ascii _ (decimal_all (n / 65536) (omega arith)))
 
 decimal_when : (text whole part : List ℕ) → whole_digits text ≡ whole → part_digits text ≡ part → list_all is_ascii_digit whole ≡ true → list_all is_ascii_digit part ≡ true → 0 < length whole → is_decimal text ≡ true
 decimal_when text whole part e p a b some =
@@ -94,7 +94,7 @@ pointed_size n lt =
     let small : w < 2 ^ 64 = omega arith in
     let best = (best_of n).reads in
     record {
-      digits = decimal_when (size_text n) (decimal w) (part_text (n % 65536)) (whole-size n lt) (part-size n lt) (passes _ (decimal_all w small)) (passes (fixed_digits (fewest_digits (n % 65536)) (nearest_digits (fewest_digits (n % 65536)) (n % 65536))) (fixed_all (fewest_digits (n % 65536)) (nearest_digits (fewest_digits (n % 65536)) (n % 65536)))) (decimal_some w small);
+      digits = decimal_when (size_text n) (decimal w) (part_text (n % 65536)) (whole-size n lt) (part-size n lt) (digits_are_ascii _ (decimal_all w small)) (digits_are_ascii (fixed_digits (fewest_digits (n % 65536)) (nearest_digits (fewest_digits (n % 65536)) (n % 65536))) (fixed_all (fewest_digits (n % 65536)) (nearest_digits (fewest_digits (n % 65536)) (n % 65536)))) (decimal_some w small);
       point = sym (ap (λ ds. ds ++ 46 ∷ part_digits (size_text n)) (whole-size n lt) ∙ ap (λ ds. decimal w ++ 46 ∷ ds) (part-size n lt));
       whole = (let some = decimal_some w small in omega (arith, ap length (whole-size n lt), some));
       needed = λ rest h. no_needless_zero w rest small (sym (whole-size n lt) ∙ h);
@@ -124,7 +124,7 @@ record AtPlaces (n k : ℕ) (text : List ℕ) : Type 0 where
 
 at_places : (n k : ℕ) (text : List ℕ) → ReadsBack n text → places text ≡ k → AtPlaces n k text
 at_places n k text r e =
-    let s = splits n text r in
+    let s = text_splits n text r in
     subst (λ j. AtPlaces n j text) e (record { reads = s.part; far = distance_of n text s; number = s.number })
 
 le_through : (a b c d : ℕ) → a ≡ b → c ≡ d → b ≤ d → a ≤ c
@@ -145,7 +145,7 @@ size_chosen n lt =
     let far : distance_from n t ≡ distance k m f = mine.far ∙ ap (λ d. distance k d f) (part_value n lt) in
     record {
       reads = size_reads n lt;
-      fewest = λ other r. (let least = best.fewest (places other) (digits_value 10 (part_digits other)) (splits n other r).part in omega (arith, here, least));
+      fewest = λ other r. (let least = best.fewest (places other) (digits_value 10 (part_digits other)) (text_splits n other r).part in omega (arith, here, least));
       nearest = λ other r same.
           (let o = at_places n k other r (same ∙ here) in
           le_through _ _ _ _ far o.far (best.nearest (digits_value 10 (part_digits other)) o.reads));

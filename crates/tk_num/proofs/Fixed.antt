@@ -47,20 +47,20 @@ fraction-fixed n m few lt =
 digit_passes : (c : ℕ) → digit_value c < 10 → is_ascii_digit c ≡ true
 digit_passes c lt = grind (arith, nat_tests)
 
-pub passes : (ds : List ℕ) → AllDigits 10 ds → list_all is_ascii_digit ds ≡ true
-passes [] all = refl
-passes (d ∷ ds) all = rw (digit_passes d all.0, passes ds all.1) refl
+pub digits_are_ascii : (ds : List ℕ) → AllDigits 10 ds → list_all is_ascii_digit ds ≡ true
+digits_are_ascii [] all = refl
+digits_are_ascii (d ∷ ds) all = rw (digit_passes d all.0, digits_are_ascii ds all.1) refl
 
-pub both : (a b : Bool) → (a && b) ≡ true → (a ≡ true) × (b ≡ true)
-both true true e = (refl, refl)
-both true false e = absurd (cc)
-both false true e = absurd (cc)
-both false false e = absurd (cc)
+pub and_is_both : (a b : Bool) → (a && b) ≡ true → (a ≡ true) × (b ≡ true)
+and_is_both true true e = (refl, refl)
+and_is_both true false e = absurd (cc)
+and_is_both false true e = absurd (cc)
+and_is_both false false e = absurd (cc)
 
 pub are_digits : (ds : List ℕ) → list_all is_ascii_digit ds ≡ true → AllDigits 10 ds
 are_digits [] e = tt
 are_digits (d ∷ ds) e =
-    let two = both (is_ascii_digit d) (list_all is_ascii_digit ds) e in
+    let two = and_is_both (is_ascii_digit d) (list_all is_ascii_digit ds) e in
     let b = digit_bounds d two.0 in
     (rw (digit_value_of d two.0) (omega (arith, b)), are_digits ds two.1)
 
@@ -70,14 +70,14 @@ after_append : (n : ℕ) (xs ys : List ℕ) → digits_value_after 10 n (xs ++ y
 after_append n [] ys = refl
 after_append n (x ∷ xs) ys = after_append (n * 10 + digit_value x) xs ys
 
-shift : (n v p r : ℕ) → (n * 10 + v) * p + r ≡ n * (p * 10) + ((0 * 10 + v) * p + r)
-shift n v p r = omega arith
+digits_shift : (n v p r : ℕ) → (n * 10 + v) * p + r ≡ n * (p * 10) + ((0 * 10 + v) * p + r)
+digits_shift n v p r = omega arith
 
 after_from : (n : ℕ) (ys : List ℕ) → digits_value_after 10 n ys ≡ n * 10 ^ length ys + digits_value_after 10 0 ys
 after_from n [] = omega arith
 after_from n (y ∷ ys) =
     after_from (n * 10 + digit_value y) ys
-    ∙ shift n (digit_value y) (10 ^ length ys) (digits_value_after 10 0 ys)
+    ∙ digits_shift n (digit_value y) (10 ^ length ys) (digits_value_after 10 0 ys)
     ∙ ap (λ p. n * p + ((0 * 10 + digit_value y) * 10 ^ length ys + digits_value_after 10 0 ys)) (sym (pow-suc 10 (length ys)))
     ∙ ap (λ r. n * 10 ^ length (y ∷ ys) + r) (sym (after_from (0 * 10 + digit_value y) ys))
 
@@ -92,7 +92,7 @@ not_point c e = let b = digit_bounds c e in grind (arith, nat_tests)
 pub point_place : (ds rest : List ℕ) → list_all is_ascii_digit ds ≡ true → position_or_len is_point (ds ++ 46 ∷ rest) ≡ length ds
 point_place [] rest all = refl
 point_place (d ∷ ds) rest all =
-    let two = both (is_ascii_digit d) (list_all is_ascii_digit ds) all in
+    let two = and_is_both (is_ascii_digit d) (list_all is_ascii_digit ds) all in
     rw (not_point d two.0) (omega (arith, point_place ds rest two.1))
 
 pub whole-joined : (ds rest : List ℕ) → list_all is_ascii_digit ds ≡ true → whole_digits (ds ++ 46 ∷ rest) ≡ ds

@@ -5,14 +5,14 @@ use Rattle.std.specs.Int.Signed.{lt_z}
 use Rattle.std.proofs.Math.Nat.{mul-le-mul_left, mul-le-mul_right}
 use Rattle.tk_num.specs.Number.{floor_root, IsFloorRoot, IsScaled, scaled, square_root}
 
-grown : (n r : ℕ) (b : Bool) → leb ((r + 1) * (r + 1)) (suc n) ≡ b → IsFloorRoot n r → IsFloorRoot (suc n) (cond b (r + 1) r)
-grown n r true e h = let le : (r + 1) * (r + 1) ≤ suc n = leb-true _ _ e in record { within = le; next = omega (arith, h.next) }
-grown n r false e h = let lt : suc n < (r + 1) * (r + 1) = leb-false _ _ e in record { within = omega (arith, h.within); next = lt }
+floor_root_grows : (n r : ℕ) (b : Bool) → leb ((r + 1) * (r + 1)) (suc n) ≡ b → IsFloorRoot n r → IsFloorRoot (suc n) (cond b (r + 1) r)
+floor_root_grows n r true e h = let le : (r + 1) * (r + 1) ≤ suc n = leb-true _ _ e in record { within = le; next = omega (arith, h.next) }
+floor_root_grows n r false e h = let lt : suc n < (r + 1) * (r + 1) = leb-false _ _ e in record { within = omega (arith, h.within); next = lt }
 
 pub is_floor_root : (n : ℕ) → IsFloorRoot n (floor_root n)
 unfolding floor_root
 is_floor_root zero = record { within = omega arith; next = omega arith }
-is_floor_root (suc n) = grown n (floor_root n) (leb ((floor_root n + 1) * (floor_root n + 1)) (suc n)) refl (is_floor_root n)
+is_floor_root (suc n) = floor_root_grows n (floor_root n) (leb ((floor_root n + 1) * (floor_root n + 1)) (suc n)) refl (is_floor_root n)
 
 square_more : (a b : ℕ) → a ≤ b → a * a ≤ b * b
 square_more a b le = let l = mul-le-mul_left a le in let r = mul-le-mul_right b le in omega (arith, l, r)

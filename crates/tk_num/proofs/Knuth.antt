@@ -54,8 +54,8 @@ four_digits_are_too_few : (f : ℕ) → 100000 < 5 * (scaled_up 4 f % 131072) �
 four_digits_are_too_few f lt e = omega arith
 
 -- the fifth digit, rounded
-fifth : (f : ℕ) → 100000 < 5 * (scaled_up 4 f % 131072) → 10 * (scaled_up 4 f / 131072) + (5 * (scaled_up 4 f % 131072) + 32768 - 50000) / 65536 ≡ nearest_digits 5 f
-fifth f lt = omega arith
+fifth_digit_is_nearest : (f : ℕ) → 100000 < 5 * (scaled_up 4 f % 131072) → 10 * (scaled_up 4 f / 131072) + (5 * (scaled_up 4 f % 131072) + 32768 - 50000) / 65536 ≡ nearest_digits 5 f
+fifth_digit_is_nearest f lt = omega arith
 
 -- one to four
 by_place : (P : ℕ → Type 0) → P 1 → P 2 → P 3 → P 4 → (n : ℕ) → 1 ≤ n → n ≤ 4 → P n
@@ -66,8 +66,8 @@ by_place P p1 p2 p3 p4 (suc (suc (suc zero))) low high = p3
 by_place P p1 p2 p3 p4 (suc (suc (suc (suc zero)))) low high = p4
 by_place P p1 p2 p3 p4 (suc (suc (suc (suc (suc n))))) low high = absurd (omega arith)
 
-ends : (k f : ℕ) → 1 ≤ k → k ≤ 4 → 5 * (scaled_up k f % 131072) ≤ 10 ^ suc k → (reads_back k f ≡ true) × (scaled_up k f / 131072 ≡ nearest_digits k f)
-ends k f low high =
+few_digits_read_back : (k f : ℕ) → 1 ≤ k → k ≤ 4 → 5 * (scaled_up k f % 131072) ≤ 10 ^ suc k → (reads_back k f ≡ true) × (scaled_up k f / 131072 ≡ nearest_digits k f)
+few_digits_read_back k f low high =
     by_place (λ n. 5 * (scaled_up n f % 131072) ≤ 10 ^ suc n → (reads_back n f ≡ true) × (scaled_up n f / 131072 ≡ nearest_digits n f))
     (λ le. (eq-eqb _ _ (one_digit_reads_back f le).0, (one_digit_reads_back f le).1)) (λ le. (eq-eqb _ _ (two_digits_read_back f le).0, (two_digits_read_back f le).1)) (λ le. (eq-eqb _ _ (three_digits_read_back f le).0, (three_digits_read_back f le).1)) (λ le. (eq-eqb _ _ (four_digits_read_back f le).0, (four_digits_read_back f le).1))
     k low high
@@ -75,8 +75,8 @@ ends k f low high =
 not_eqb : (m n : ℕ) → m ≢ n → eqb m n ≡ false
 not_eqb m n ne = grind (arith, nat_tests)
 
-goes : (k f : ℕ) → 1 ≤ k → k ≤ 4 → 10 ^ suc k < 5 * (scaled_up k f % 131072) → reads_back k f ≡ false
-goes k f low high =
+few_digits_are_too_few : (k f : ℕ) → 1 ≤ k → k ≤ 4 → 10 ^ suc k < 5 * (scaled_up k f % 131072) → reads_back k f ≡ false
+few_digits_are_too_few k f low high =
     by_place (λ n. 10 ^ suc n < 5 * (scaled_up n f % 131072) → reads_back n f ≡ false)
     (λ lt. not_eqb _ _ (one_digit_is_too_few f lt)) (λ lt. not_eqb _ _ (two_digits_are_too_few f lt)) (λ lt. not_eqb _ _ (three_digits_are_too_few f lt)) (λ lt. not_eqb _ _ (four_digits_are_too_few f lt))
     k low high
@@ -126,15 +126,15 @@ below_more_places P k all here j low high =
     ]
 
 -- the first four digits are taken from the rest as it is
-small : (k : ℕ) → k < 4 → 10 ^ suc k ≤ 10000
-small zero lt = omega arith
-small (suc zero) lt = omega arith
-small (suc (suc zero)) lt = omega arith
-small (suc (suc (suc zero))) lt = omega arith
-small (suc (suc (suc (suc n)))) lt = absurd (omega arith)
+powers_to_four_are_small : (k : ℕ) → k < 4 → 10 ^ suc k ≤ 10000
+powers_to_four_are_small zero lt = omega arith
+powers_to_four_are_small (suc zero) lt = omega arith
+powers_to_four_are_small (suc (suc zero)) lt = omega arith
+powers_to_four_are_small (suc (suc (suc zero))) lt = omega arith
+powers_to_four_are_small (suc (suc (suc (suc n)))) lt = absurd (omega arith)
 
-taken : (delta rest s : ℕ) → s ≡ cond (ltb 65536 delta) (rest + 32768 - 50000) rest → delta ≤ 10000 → s ≡ rest
-taken delta rest s e le = grind (arith, nat_tests)
+unrounded_before_the_fifth : (delta rest s : ℕ) → s ≡ cond (ltb 65536 delta) (rest + 32768 - 50000) rest → delta ≤ 10000 → s ≡ rest
+unrounded_before_the_fifth delta rest s e le = grind (arith, nat_tests)
 
 taken_rounded : (delta rest s : ℕ) → s ≡ cond (ltb 65536 delta) (rest + 32768 - 50000) rest → delta ≡ 100000 → s ≡ rest + 32768 - 50000
 taken_rounded delta rest s e is = grind (arith, nat_tests)
@@ -155,7 +155,7 @@ part_is f k e = rw e refl
 short_stop : (f k s delta : ℕ) (before now : List ℕ) → k < 4 → delta ≡ 10 ^ suc k → now ≡ before ++ fixed_digits k (scaled_up k f / 131072) → s ≡ 5 * (scaled_up k f % 131072) → ((j : ℕ) → 1 ≤ j → j ≤ k → reads_back j f ≡ false) → 10 * (s % 65536) ≤ delta * 10 → now ++ (48 + s / 65536) ∷ [] ≡ before ++ part_text f
 short_stop f k s delta before now few delta_is done e none le =
     let after : 5 * (scaled_up (suc k) f % 131072) ≤ 10 ^ suc (suc k) = omega (arith, rest_is k f s e, power_more k delta delta_is, le) in
-    let end = ends (suc k) f (omega arith) (omega arith) after in
+    let end = few_digits_read_back (suc k) f (omega arith) (omega arith) after in
     let fewest : fewest_digits f ≡ suc k = fewest_is (suc k) f (omega arith) (omega arith) end.0 (λ j low lt. none j low (omega arith)) in
     digit_out k (scaled_up (suc k) f / 131072) (scaled_up k f / 131072) (s / 65536) before now done (digit_is k f s e) (omega arith)
     ∙ ap (λ m. before ++ fixed_digits (suc k) m) end.1
@@ -163,14 +163,14 @@ short_stop f k s delta before now few delta_is done e none le =
 
 last_stop : (f s : ℕ) (before now : List ℕ) → now ≡ before ++ fixed_digits 4 (scaled_up 4 f / 131072) → s ≡ 5 * (scaled_up 4 f % 131072) + 32768 - 50000 → 100000 < 5 * (scaled_up 4 f % 131072) → ((j : ℕ) → 1 ≤ j → j ≤ 4 → reads_back j f ≡ false) → now ++ (48 + s / 65536) ∷ [] ≡ before ++ part_text f
 last_stop f s before now done e large none =
-    digit_out 4 (nearest_digits 5 f) (scaled_up 4 f / 131072) (s / 65536) before now done (sym (rw e (fifth f large))) (omega arith)
+    digit_out 4 (nearest_digits 5 f) (scaled_up 4 f / 131072) (s / 65536) before now done (sym (rw e (fifth_digit_is_nearest f large))) (omega arith)
     ∙ ap (λ ds. before ++ ds) (part_is f 5 (five_digits_are_fewest f none))
 
 pub last_digit : (f rest delta s : ℕ) (before now : List ℕ) → AtDigit f before now rest delta → s ≡ cond (ltb 65536 delta) (rest + 32768 - 50000) rest → 10 * (s % 65536) ≤ delta * 10 → now ++ (48 + s / 65536) ∷ [] ≡ before ++ part_text f
 last_digit f rest delta s before now a e le =
     elim (cases_lt a.count 4) [
       | inl lt ↦
-          (let same : s ≡ rest = taken delta rest s e (rw a.delta_is (small a.count lt)) in
+          (let same : s ≡ rest = unrounded_before_the_fifth delta rest s e (rw a.delta_is (powers_to_four_are_small a.count lt)) in
           short_stop f a.count s delta before now lt a.delta_is a.done (same ∙ a.rest_is) a.shorter le)
       | inr ge ↦
           (let four : a.count ≡ 4 = omega (arith, a.few) in
@@ -189,7 +189,7 @@ short_go f k s delta before now few delta_is done e none lt =
       delta_is = power_more k delta delta_is;
       done = digit_out k (scaled_up (suc k) f / 131072) (scaled_up k f / 131072) (s / 65536) before now done (digit_is k f s e) (omega arith);
       rest_is = rest_is k f s e;
-      shorter = below_more_places (λ j. reads_back j f ≡ false) k none (goes (suc k) f (omega arith) (omega arith) after);
+      shorter = below_more_places (λ j. reads_back j f ≡ false) k none (few_digits_are_too_few (suc k) f (omega arith) (omega arith) after);
       large = λ low. lt;
     }
 
@@ -197,7 +197,7 @@ pub next_digit : (f rest delta s : ℕ) (before now : List ℕ) → AtDigit f be
 next_digit f rest delta s before now a e lt =
     elim (cases_lt a.count 4) [
       | inl less ↦
-          (let same : s ≡ rest = taken delta rest s e (rw a.delta_is (small a.count less)) in
+          (let same : s ≡ rest = unrounded_before_the_fifth delta rest s e (rw a.delta_is (powers_to_four_are_small a.count less)) in
           short_go f a.count s delta before now less a.delta_is a.done (same ∙ a.rest_is) a.shorter lt)
       | inr ge ↦
           (let four : a.count ≡ 4 = omega (arith, a.few) in

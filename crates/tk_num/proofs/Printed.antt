@@ -57,8 +57,8 @@ pub put_whole : (z : ℤ) (f : ℕ) (before front : List ℕ)
 put_whole z f before front e part none = e ∙ ap (λ ds. before ++ ds) (text-whole z (sym part ∙ none))
 
 -- what is put behind nothing is all
-pub alone : (before text all : List ℕ) → all ≡ before ++ text → before ≡ [] → all ≡ text
-alone before text all e none = e ∙ ap (λ ds. ds ++ text) none
+pub text_behind_nothing : (before text all : List ℕ) → all ≡ before ++ text → before ≡ [] → all ≡ text
+text_behind_nothing before text all e none = e ∙ ap (λ ds. ds ++ text) none
 
 -- ---- all is ASCII
 

@@ -10,7 +10,7 @@ use Rattle.std.proofs.lemmas.Nat.{div-mul-add}
 use Rattle.std.proofs.lemmas.Str.Parse.{IsNumeralModel}
 use Rattle.tk_num.specs.Number.{whole_digits, part_digits}
 use Rattle.tk_num.specs.Text.{IsChosen, ReadsBack, IsTextOf, IsPointedTextOf, places, number_without_point, distance_from, sign_text, pointed_text, text_of, without_zero}
-use Rattle.tk_num.proofs.Chosen.{size_text, size_chosen, splits, text-is, pointed-is, whole_passes, part_passes, whole-size}
+use Rattle.tk_num.proofs.Chosen.{size_text, size_chosen, text_splits, text-is, pointed-is, whole_passes, part_passes, whole-size}
 use Rattle.tk_num.proofs.Fixed.{are_digits, value-append}
 
 -- ---- digits are known by their count and their number
@@ -42,28 +42,28 @@ same_digits (x ∷ xs) (y ∷ ys) a b l v =
     let rest : digits_value 10 xs ≡ digits_value 10 ys = rest_same (digit_value x * p) (digits_value 10 xs) (digits_value 10 ys) (all ∙ ap (λ d. d * p + digits_value 10 ys) (sym first)) in
     ap (λ c. c ∷ xs) (digit_same x y a.0 b.0 first) ∙ ap (λ cs. y ∷ cs) (same_digits xs ys a.1 b.1 count rest)
 
-numerals : IsNumeralModel (AllDigits 10) (digits_value 10)
-numerals = record { to = λ ds h. h; from = λ ds h. h; same = λ ds h. refl }
+digits_are_numerals : IsNumeralModel (AllDigits 10) (digits_value 10)
+digits_are_numerals = record { to = λ ds h. h; from = λ ds h. h; same = λ ds h. refl }
 
 -- ---- the choice
 
-lone : (ds : List ℕ) → 1 ≤ length ds → ((rest : List ℕ) → ds ≡ 48 ∷ rest → rest ≡ []) → get_or ds 0 0 ≡ 48 → length ds ≡ 1
-lone [] some h e = absurd (omega arith)
-lone (d ∷ ds) some h e = let none = h ds (ap (λ c. c ∷ ds) e) in omega (arith, ap length none)
+lone_zero : (ds : List ℕ) → 1 ≤ length ds → ((rest : List ℕ) → ds ≡ 48 ∷ rest → rest ≡ []) → get_or ds 0 0 ≡ 48 → length ds ≡ 1
+lone_zero [] some h e = absurd (omega arith)
+lone_zero (d ∷ ds) some h e = let none = h ds (ap (λ c. c ∷ ds) e) in omega (arith, ap length none)
 
 whole_same : (n : ℕ) (text : List ℕ) → n < 2 ^ 64 → ReadsBack n text → whole_digits text ≡ decimal (n / 65536)
 whole_same n text lt r =
     let ds : List ℕ = whole_digits text in
-    let value : digits_value 10 ds ≡ n / 65536 = (splits n text r).whole in
+    let value : digits_value 10 ds ≡ n / 65536 = (text_splits n text r).whole in
     let all = are_digits ds (whole_passes text r.pointed.digits) in
-    sym (decimal-digits_value numerals ds all r.pointed.whole (lone ds r.pointed.whole r.pointed.needed) (omega (arith, value)))
+    sym (decimal-digits_value digits_are_numerals ds all r.pointed.whole (lone_zero ds r.pointed.whole r.pointed.needed) (omega (arith, value)))
     ∙ ap decimal value
 
 part_same : (n : ℕ) (a b : List ℕ) → ReadsBack n a → ReadsBack n b → places a ≡ places b → number_without_point a ≡ number_without_point b → part_digits a ≡ part_digits b
 part_same n a b r s count number =
     let p : ℕ = n / 65536 * 10 ^ places a in
-    let here = (splits n a r).number in
-    let there : number_without_point b ≡ p + digits_value 10 (part_digits b) = (splits n b s).number ∙ ap (λ j. n / 65536 * 10 ^ j + digits_value 10 (part_digits b)) (sym count) in
+    let here = (text_splits n a r).number in
+    let there : number_without_point b ≡ p + digits_value 10 (part_digits b) = (text_splits n b s).number ∙ ap (λ j. n / 65536 * 10 ^ j + digits_value 10 (part_digits b)) (sym count) in
     let value : digits_value 10 (part_digits a) ≡ digits_value 10 (part_digits b) = rest_same p _ _ (sym here ∙ number ∙ there) in
     same_digits (part_digits a) (part_digits b) (are_digits _ (part_passes a r.pointed.digits)) (are_digits _ (part_passes b s.pointed.digits)) count value
 

@@ -6,8 +6,8 @@ use Rattle.std.proofs.lemmas.Bool.Decides.{nat_tests}
 use Rattle.std.proofs.lemmas.Int.{to_z-of_z, ints, unsigned_abs-mul, fits_signed_from_abs}
 use Rattle.tk_num.specs.Number.{IsScaled, scaled, quotient}
 
-pub fits : (z : ℤ) → unsigned_abs z < 2 ^ 63 → SFits w64 z
-fits z lt = fits_signed_from_abs w64 z lt
+pub fits_signed_64 : (z : ℤ) → unsigned_abs z < 2 ^ 63 → SFits w64 z
+fits_signed_64 z lt = fits_signed_from_abs w64 z lt
 
 -- a product of two numbers below 2 ^ 31
 pub product_small : (a b : ℤ) → unsigned_abs a ≤ 1073741823 → unsigned_abs b ≤ 1073741823 → unsigned_abs (a *ℤ b) ≤ 1152921502459363329
@@ -18,15 +18,15 @@ product_small a b la lb =
 
 pub wrapped_mul : (a b : ℤ) → unsigned_abs a ≤ 1073741823 → unsigned_abs b ≤ 1073741823 → to_z w64 (of_z w64 (to_z w64 (of_z w64 a) *ℤ to_z w64 (of_z w64 b))) ≡ a *ℤ b
 wrapped_mul a b la lb =
-    ap (λ z. to_z w64 (of_z w64 (z *ℤ to_z w64 (of_z w64 b)))) (to_z-of_z w64 a (fits a (omega arith)))
-    ∙ ap (λ z. to_z w64 (of_z w64 (a *ℤ z))) (to_z-of_z w64 b (fits b (omega arith)))
-    ∙ to_z-of_z w64 (a *ℤ b) (let small = product_small a b la lb in fits (a *ℤ b) (omega arith))
+    ap (λ z. to_z w64 (of_z w64 (z *ℤ to_z w64 (of_z w64 b)))) (to_z-of_z w64 a (fits_signed_64 a (omega arith)))
+    ∙ ap (λ z. to_z w64 (of_z w64 (a *ℤ z))) (to_z-of_z w64 b (fits_signed_64 b (omega arith)))
+    ∙ to_z-of_z w64 (a *ℤ b) (let small = product_small a b la lb in fits_signed_64 (a *ℤ b) (omega arith))
 
 sum_small : (a b : ℤ) → unsigned_abs (a +ℤ b) ≤ unsigned_abs a + unsigned_abs b
 sum_small a b = omega (arith, ints)
 
 pub sum_fits : (a b : ℤ) → unsigned_abs a ≤ 1152921502459363329 → unsigned_abs b ≤ 1152921502459363329 → SFits w64 (a +ℤ b)
-sum_fits a b la lb = let s = sum_small a b in fits (a +ℤ b) (omega arith)
+sum_fits a b la lb = let s = sum_small a b in fits_signed_64 (a +ℤ b) (omega arith)
 
 -- a sum whose parts are known
 pub wrapped_add : (x y a b : ℤ) → x ≡ a → y ≡ b → unsigned_abs a ≤ 1152921502459363329 → unsigned_abs b ≤ 1152921502459363329 → to_z w64 (of_z w64 (x +ℤ y)) ≡ a +ℤ b

@@ -4,7 +4,7 @@ use Rattle.std.proofs.Common.{arith}
 use Rattle.tk_token.specs.declared.Code.TheVariants.{Budget, Domain}
 use Rattle.tk_token.specs.Answers.{Answer, ◌>>=◌, fault}
 use Rattle.tk_expand.specs.Expand.{pay}
-use Rattle.tk_expand.proofs.Falling.{paid}
+use Rattle.tk_expand.proofs.Falling.{paid_units_are_within}
 use Rattle.tk_expand.proofs.Places.{Stands}
 use Rattle.tk_item.specs.declared.Point.{Point}
 use Rattle.tk_item.specs.declared.Seg.{Seg}
@@ -22,7 +22,7 @@ module _ (P : ℕ → Type 0) (at : ℕ) (here : P at) where
 
   -- a unit is paid, or the fault stands there
   pay_stands : (budget units : ℕ) → Stands P (λ (now : ℕ). (now ≡ units + 1) × (now ≤ budget)) (pay budget units 1 at)
-  pay_stands budget units = by (pay budget units 1 at) (paid budget units 1 at) (if_at P (λ (n : ℕ). Unit {0}) (nat_lt budget (units + 1)) (fault Budget at) (Ok (units + 1)) here tt)
+  pay_stands budget units = by (pay budget units 1 at) (paid_units_are_within budget units 1 at) (if_at P (λ (n : ℕ). Unit {0}) (nat_lt budget (units + 1)) (fault Budget at) (Ok (units + 1)) here tt)
     where
       by : (r : Answer ℕ) → IfOk r (λ now. (now ≡ units + 1) × (now ≤ budget)) → Stands P (λ (n : ℕ). Unit {0}) r → Stands P (λ (now : ℕ). (now ≡ units + 1) × (now ≤ budget)) r
       by (Ok n) h k = h

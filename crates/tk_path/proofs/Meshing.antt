@@ -21,7 +21,7 @@ use Rattle.tk_path.specs.declared.trace.Mesh.{Mesh}
 use Rattle.tk_path.specs.CurrentPaths.{CurrentPath, current_point, moved_to, with_pieces}
 use Rattle.tk_path.specs.Meshes.{Meshed, meshed, mesh_drawn}
 use Rattle.tk_path.specs.Views.{BeginsOrNone, IsTraced}
-use Rattle.tk_path.proofs.Tracing.{joined, line_begins}
+use Rattle.tk_path.proofs.Tracing.{joined_pieces_begin, line_begins}
 
 -- ---- the pieces begin with a Move
 
@@ -44,7 +44,7 @@ module _ (m : Matrix) (budget at : ℕ) where
   lines_grid units (line ∷ lines) =
       then_holds GridBegins GridBegins (line_drawn m budget at units line) _ (line_grid units line) (λ first h.
       then_holds GridBegins GridBegins (lines_drawn m budget at first.units lines) _ (lines_grid first.units lines) (λ others k.
-      joined first.pieces others.pieces h k))
+      joined_pieces_begin first.pieces others.pieces h k))
 
   grid_begins : (p q : Point) (sx sy : ℤ) (units : ℕ) → IfOk (grid_pieces m p q sx sy budget at units) GridBegins
   unfolding grid_pieces
@@ -61,7 +61,7 @@ module _ (m : Matrix) (budget at : ℕ) where
 traced_by : (old new : List Seg) (used : ℕ) (answer : Answer Grid) → BeginsOrNone old → IfOk answer GridBegins → grid_appended old answer ≡ Ok (grid_of new used) → IsTraced new None
 traced_by old new used (Ok g) h k e =
     let whole : grid_behind old g ≡ grid_of new used = cc e in
-    record { first = subst BeginsOrNone (ap (λ (grid : Grid). grid.pieces) whole) (joined old g.pieces h k); begun = tt }
+    record { first = subst BeginsOrNone (ap (λ (grid : Grid). grid.pieces) whole) (joined_pieces_begin old g.pieces h k); begun = tt }
 traced_by old new used (Err f) h k e = absurd (let bad : ⊥ = cc e in bad)
 
 pub grid_added : (old new : List Seg) (used : ℕ) (m : Matrix) (p q : Point) (sx sy : ℤ) (budget at units : ℕ) → BeginsOrNone old → grid_appended old (grid_pieces m p q sx sy budget at units) ≡ Ok (grid_of new used) → IsTraced new None

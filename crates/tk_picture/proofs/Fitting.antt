@@ -16,8 +16,8 @@ is_family : IsFamily (codes "monospace")
 is_family = record { some = lit< tt; each = refl }
 
 -- a drawing of a proper frame and fitting items fits
-pub fits : (d : Drawing) → IsProperFrame d.frame → d.family ≡ codes "monospace" → AllByRecursion FitsItem d.items → Fits d
-fits d p f h = record {
+pub drawing_fits : (d : Drawing) → IsProperFrame d.frame → d.family ≡ codes "monospace" → AllByRecursion FitsItem d.items → Fits d
+drawing_fits d p f h = record {
   sides = p.across;
   heights = p.upward;
   left = (let k = p.left in omega (arith, ints));

@@ -9,7 +9,7 @@ use Rattle.tk_token.specs.Answers.{Answer}
 use Rattle.tk_token.specs.Faults.{Lexes}
 use Rattle.tk_token.specs.Token.{Token}
 use Rattle.tk_token.proofs.Faulty.{before_fault, before_tokens}
-use Rattle.tk_token.proofs.Total.{lexes}
+use Rattle.tk_token.proofs.Total.{each_source_lexes}
 use Rattle.tk_token.proofs.Unique.{lexes_same}
 
 -- a place that has a line and a column: it stands within the source, behind whole characters
@@ -19,7 +19,7 @@ pub record IsPlace (source : List ℕ) (at : ℕ) : Type 0 where
 
 -- each source is cut or refused
 pub some_tokens : (source : List ℕ) → (answer : Answer (List Token)) × Lexes source answer
-some_tokens = lexes
+some_tokens = each_source_lexes
 
 -- in one way
 pub one_answer : (source : List ℕ) (a b : Answer (List Token)) → Lexes source a → Lexes source b → a ≡ b

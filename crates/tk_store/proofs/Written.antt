@@ -36,32 +36,32 @@ bind_kept (Ok x) ts f = refl
 bind_kept (Err e) ts f = refl
 
 -- a token with nothing behind it
-alone : (args : ℕ) (k : Kind) (t : Tok)
+token_alone_is_written : (args : ℕ) (k : Kind) (t : Tok)
     → (itself k t >>= λ first. Ok (first ∷ []))
     ≡ ((if is_param k then misfit t.at else (itself k t >>= λ first. Ok (kept first []))) >>= from_kept args)
 unfolding body_of
-alone args Param t = refl
-alone args (Arg n) t = refl
-alone args (Char c) t = refl
-alone args (Word w) t = refl
-alone args (Symbol c) t = refl
-alone args Open t = refl
-alone args Close t = refl
-alone args Space t = refl
+token_alone_is_written args Param t = refl
+token_alone_is_written args (Arg n) t = refl
+token_alone_is_written args (Char c) t = refl
+token_alone_is_written args (Word w) t = refl
+token_alone_is_written args (Symbol c) t = refl
+token_alone_is_written args Open t = refl
+token_alone_is_written args Close t = refl
+token_alone_is_written args Space t = refl
 
 -- a token with another behind it, which may belong to it
-paired : (args : ℕ) (b : Bool) (m n : Answer Tok) (us ts : List Tok) →
+marks_paired : (args : ℕ) (b : Bool) (m n : Answer Tok) (us ts : List Tok) →
     (if b then (m >>= λ first. body_of args us >>= λ more. Ok (first ∷ more))
     else (n >>= λ first. body_of args ts >>= λ more. Ok (first ∷ more)))
     ≡ ((if b then (m >>= λ first. Ok (kept first us)) else (n >>= λ first. Ok (kept first ts))) >>= from_kept args)
-paired args true m n us ts = sym (bind_kept m us (from_kept args))
-paired args false m n us ts = sym (bind_kept n ts (from_kept args))
+marks_paired args true m n us ts = sym (bind_kept m us (from_kept args))
+marks_paired args false m n us ts = sym (bind_kept n ts (from_kept args))
 
 -- a body is the token that is kept first, and the body behind that
 body_is : (args : ℕ) (t : Tok) (ts : List Tok) → body_of args (t ∷ ts) ≡ (first_kept args t ts >>= from_kept args)
 unfolding body_of
-body_is args t [] = alone args t.kind t
-body_is args t (u ∷ us) = paired args (is_param t.kind) (hash_before args u.kind t.at) (itself t.kind t) us (u ∷ us)
+body_is args t [] = token_alone_is_written args t.kind t
+body_is args t (u ∷ us) = marks_paired args (is_param t.kind) (hash_before args u.kind t.at) (itself t.kind t) us (u ∷ us)
 
 -- A body so far: the answer is that of the tokens that are left, with some before it.
 module _ (args : ℕ) (done rest : List Tok) (answer : Answer (List Tok)) (told : answer ≡ onto done (body_of args rest)) where

@@ -81,16 +81,16 @@ numbers_fit (suc n) value xs e =
 
 -- ---- paths
 
-begins : (segs : List Seg) (args : List ℤ) (others : List PathCommand) → command_pieces ((MoveTo, args) ∷ others) ≡ Some segs → BeginsWithMove segs
-begins segs [] others e = absurd cc
-begins segs (x ∷ []) others e = absurd cc
-begins segs (x ∷ (y ∷ [])) others e =
+first_command_begins : (segs : List Seg) (args : List ℤ) (others : List PathCommand) → command_pieces ((MoveTo, args) ∷ others) ≡ Some segs → BeginsWithMove segs
+first_command_begins segs [] others e = absurd cc
+first_command_begins segs (x ∷ []) others e = absurd cc
+first_command_begins segs (x ∷ (y ∷ [])) others e =
     let s = step_back (command_piece (MoveTo, x ∷ y ∷ [])) (λ first. command_pieces others and_then λ more. Some (first ∷ more)) segs e in
     let t = step_back (scaled_point x y) (λ p. Some (Move p)) s.0 s.1 in
     let u = step_back (command_pieces others) (λ more. Some (s.0 ∷ more)) segs s.2 in
     let is : Move t.0 ∷ u.0 ≡ segs = cc (t.2, u.2) in
     subst BeginsWithMove is tt
-begins segs (x ∷ (y ∷ (z ∷ args))) others e = absurd cc
+first_command_begins segs (x ∷ (y ∷ (z ∷ args))) others e = absurd cc
 
 length_sign : (value : List ℕ) (w : ℤ) → length_value value ≡ Some w → pos 0 ≤ℤ w
 unfolding length_value
@@ -130,7 +130,7 @@ stroke_fits a stroke e =
 
 path_fits : (a : List Attribute) (item : Item) → IsPathElement a item → FitsItem item
 path_fits a item p =
-    let here : FitsItem (Path p.segs p.fill p.stroke) = (begins p.segs p.segs_are.args p.segs_are.others p.segs_are.meaning, stroke_fits a p.stroke p.stroke_is) in
+    let here : FitsItem (Path p.segs p.fill p.stroke) = (first_command_begins p.segs p.segs_are.args p.segs_are.others p.segs_are.meaning, stroke_fits a p.stroke p.stroke_is) in
     subst FitsItem (sym p.is) here
 
 items_fit : {bytes rest : List ℕ} {items : List Item} → Content bytes items rest → AllByRecursion FitsItem items

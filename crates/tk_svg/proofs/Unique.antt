@@ -37,11 +37,11 @@ pub and_true : (a b : Bool) → (a && b) ≡ true → (a ≡ true) × (b ≡ tru
 and_true true b e = (refl, e)
 and_true false b e = absurd (false≢true e)
 
-cells : {A : Type 0} {x y : A} {xs ys : List A} → x ≡ y → xs ≡ ys → x ∷ xs ≡ y ∷ ys
-cells e f = cc
+same_cells : {A : Type 0} {x y : A} {xs ys : List A} → x ≡ y → xs ≡ ys → x ∷ xs ≡ y ∷ ys
+same_cells e f = cc
 
-pairs : {A B : Type 0} {x y : A} {u v : B} → x ≡ y → u ≡ v → ◌≡◌ {A = A × B} (x, u) (y, v)
-pairs {A} {B} {x} {y} {u} {v} e f = ap (λ (a : A). (a, u)) e ∙ ap (λ (b : B). (y, b)) f
+same_pairs : {A B : Type 0} {x y : A} {u v : B} → x ≡ y → u ≡ v → ◌≡◌ {A = A × B} (x, u) (y, v)
+same_pairs {A} {B} {x} {y} {u} {v} e f = ap (λ (a : A). (a, u)) e ∙ ap (λ (b : B). (y, b)) f
 
 -- two texts without the byte c, each up to a c, are one
 pub split_same : (p : ℕ → Bool) (c : ℕ) → p c ≡ false → (xs ys r s : List ℕ) → list_all p xs ≡ true → list_all p ys ≡ true → xs ++ c ∷ r ≡ ys ++ c ∷ s → (xs ≡ ys) × (r ≡ s)
@@ -58,7 +58,7 @@ split_same p c not_p (x ∷ xs) (y ∷ ys) r s a b e =
     let same : x ≡ y = cc in
     let tails : xs ++ c ∷ r ≡ ys ++ c ∷ s = cc in
     let more = split_same p c not_p xs ys r s (and_true _ _ a).1 (and_true _ _ b).1 tails in
-    (cells same more.0, more.1)
+    (same_cells same more.0, more.1)
 
 -- a letter begins no number
 letter_no_number : (c : ℕ) (j : Letter) (cs : List ℕ) → path_letter c ≡ Some j → begins_number (after_comma (c ∷ cs)) ≡ false
@@ -89,14 +89,14 @@ commands_same (named f g h i) (ends e) = absurd cc
 commands_same {bytes = bytes} (named {j = j} {c = c} {front = front} {rest = rest} {args = args} {more = more} f g h i) (named {j = j'} {c = c'} {front = front'} {rest = rest'} {args = args'} {more = more'} f' g' h' i') =
     let s = named_same j j' c c' front front' rest rest' args args' (after_blanks bytes) f f' g g' h h' in
     let other : PathCommands (repeated j) rest more' = subst (λ (l : Letter). PathCommands (repeated l) rest more') (sym s.0) (subst (λ (w : List ℕ). PathCommands (repeated j') w more') (sym s.2) i') in
-    cells (pairs s.0 s.1) (commands_same i other)
+    same_cells (same_pairs s.0 s.1) (commands_same i other)
 commands_same {bytes = bytes} (named {j = j} {c = c} {front = front} f g h i) (again f' g' h' i') = absurd (named_no_number bytes c j front f g g')
 commands_same {bytes = bytes} (again f g h i) (ends e) = absurd (end_no_number bytes e g)
 commands_same {bytes = bytes} (again f g h i) (named {j = j} {c = c} {front = front} f' g' h' i') = absurd (named_no_number bytes c j front f' g' g)
 commands_same {k = k} {bytes = bytes} (again {rest = rest} {args = args} {more = more} f g h i) (again {rest = rest'} {args = args'} {more = more'} f' g' h' i') =
     let both = some_same (numbers_at (arity k) bytes) (args, rest) (args', rest') h h' in
     let r : rest' ≡ rest = sym (second_same _ _ both) in
-    cells (pairs refl (first_same _ _ both)) (commands_same i (subst (λ (w : List ℕ). PathCommands k w more') r i'))
+    same_cells (same_pairs refl (first_same _ _ both)) (commands_same i (subst (λ (w : List ℕ). PathCommands k w more') r i'))
 
 pub path_same : (bytes : List ℕ) (a b : List Seg) → IsPathData bytes a → IsPathData bytes b → a ≡ b
 path_same bytes a b p q =
@@ -104,7 +104,7 @@ path_same bytes a b p q =
     let both = some_same (first_numbers_at 2 p.front) (p.args, p.rest) (q.args, q.rest) p.first (ap (λ (w : List ℕ). first_numbers_at 2 w) fronts ∙ q.first) in
     let rests : q.rest ≡ p.rest = sym (second_same _ _ both) in
     let commands = commands_same p.commands (subst (λ (w : List ℕ). PathCommands LineTo w q.others) rests q.commands) in
-    let whole = cells (pairs {x = MoveTo} refl (first_same _ _ both)) commands in
+    let whole = same_cells (same_pairs {x = MoveTo} refl (first_same _ _ both)) commands in
     some_same (command_pieces ((MoveTo, p.args) ∷ p.others)) a b p.meaning (ap command_pieces whole ∙ q.meaning)
 
 -- ---- attributes
@@ -133,7 +133,7 @@ attributes_same {bytes = bytes} (one {name = name} {value = value} {more = more}
 attributes_same {bytes = bytes} (one {name = name} {value = value} {more = more} {rest = r} {others = others} b f is v w) (one {name = name'} {value = value'} {more = more'} {rest = s} {others = others'} b' f' is' v' w') =
     let here = attribute_same (after_blanks bytes) name value more name' value' more' f f' is is' v v' in
     let then = attributes_same w (subst (λ (m : List ℕ). Attributes m others' s) (sym here.2) w') in
-    (cells (pairs here.0 here.1) then.0, then.1)
+    (same_cells (same_pairs here.0 here.1) then.0, then.1)
 
 -- ---- paths
 
@@ -172,7 +172,7 @@ content_same {bytes = bytes} (doc.path {tag = tag} f g h i) (doc.ends {rest = r}
 content_same {bytes = bytes} (doc.path {tag = tag} {more = more} {attributes = a} {item = x} f g h i) (doc.path {tag = tag'} {more = more'} {rest = s} {attributes = a'} {item = y} {items = items'} f' g' h' i') =
     let here = path_step (after_blanks bytes) tag tag' more more' a a' x y f f' g g' h h' in
     let then = content_same i (subst (λ (m : List ℕ). Content m items' s) here.1 i') in
-    (cells here.0 then.0, then.1)
+    (same_cells here.0 then.0, then.1)
 
 -- a view box is one frame
 box_same : {x y w h x' y' w' h' : ℤ} → ◌≡◌ {A = List ℤ} (x ∷ y ∷ w ∷ h ∷ []) (x' ∷ y' ∷ w' ∷ h' ∷ []) → ◌≡◌ {A = Frame} (record { left = x; bottom = neg_ℤ (y +ℤ h); right = x +ℤ w; top = neg_ℤ y }) (record { left = x'; bottom = neg_ℤ (y' +ℤ h'); right = x' +ℤ w'; top = neg_ℤ y' })

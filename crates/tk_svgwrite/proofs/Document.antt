@@ -28,15 +28,15 @@ use Rattle.tk_svgwrite.specs.Ranges.{FillInRange, StrokeInRange, ItemInRange}
 use Rattle.tk_svgwrite.proofs.Numbers.{is_plain, all_both, text_plain, numbers_plain, list_back}
 use Rattle.tk_svgwrite.proofs.PathData.{unsigned_abs-neg, neg-neg, scaled_fits, data_means, data_plain}
 use Rattle.tk_svgwrite.proofs.Paint.{rgb_plain, rule_plain, cap_plain, join_plain, dash_plain, scaled_back, fill_means, stroke_means}
-use Rattle.tk_svgwrite.proofs.Settings.{IsWritten, has_name, are_apart, absent, distinct_back, among_back, written_back}
+use Rattle.tk_svgwrite.proofs.Settings.{IsWritten, has_name, are_apart, absent_name_has_no_value, distinct_back, among_back, written_back}
 
 -- ---- attributes
 
-weaker : (p q : ℕ → Bool) → ((c : ℕ) → p c ≡ true → q c ≡ true) → (cs : List ℕ) → list_all p cs ≡ true → list_all q cs ≡ true
-weaker p q f [] h = refl
-weaker p q f (c ∷ cs) h =
+weaker_test : (p q : ℕ → Bool) → ((c : ℕ) → p c ≡ true → q c ≡ true) → (cs : List ℕ) → list_all p cs ≡ true → list_all q cs ≡ true
+weaker_test p q f [] h = refl
+weaker_test p q f (c ∷ cs) h =
     let both = and_true (p c) (list_all p cs) h in
-    rw (f c both.0, weaker p q f cs both.1) refl
+    rw (f c both.0, weaker_test p q f cs both.1) refl
 
 plain_is_value : (c : ℕ) → is_plain c ≡ true → is_value_byte c ≡ true
 plain_is_value c h = grind (arith, nat_tests)
@@ -55,7 +55,7 @@ attributes_back : (attributes : List Attribute) (rest : List ℕ) → AllByRecur
 attributes_back [] rest h b e = none b e
 attributes_back (a ∷ others) rest h b e =
     let parts = parts_of a.0 a.1 (attributes_text others) rest in
-    one {name = a.0} {value = a.1} {more = attributes_text others ++ rest} refl (ap after_blanks parts ∙ name_starts a.0 _ h.0.name) h.0.name (weaker is_plain is_value_byte plain_is_value a.1 h.0.value) (attributes_back others rest h.1 b e)
+    one {name = a.0} {value = a.1} {more = attributes_text others ++ rest} refl (ap after_blanks parts ∙ name_starts a.0 _ h.0.name) h.0.name (weaker_test is_plain is_value_byte plain_is_value a.1 h.0.value) (attributes_back others rest h.1 b e)
 
 -- a line feed, or a printable ASCII character
 abbrev pub is_line : ℕ → Bool
@@ -70,16 +70,16 @@ name_is_line c h = grind (arith, nat_tests)
 attributes_line : (attributes : List Attribute) → AllByRecursion IsWritten attributes → list_all is_line (attributes_text attributes) ≡ true
 attributes_line [] h = refl
 attributes_line (a ∷ others) h =
-    let name = weaker is_name_byte is_line name_is_line a.0 h.0.name.each in
-    let value = weaker is_plain is_line plain_is_line a.1 h.0.value in
+    let name = weaker_test is_name_byte is_line name_is_line a.0 h.0.name.each in
+    let value = weaker_test is_plain is_line plain_is_line a.1 h.0.value in
     all_both is_line (attribute_text a) (attributes_text others)
     (all_both is_line (codes " " ++ a.0 ++ codes "=\"" ++ a.1) (codes "\"") (all_both is_line (codes " " ++ a.0 ++ codes "=\"") a.1 (all_both is_line (codes " " ++ a.0) (codes "=\"") name refl) value) refl)
     (attributes_line others h.1)
 
 -- ---- a path
 
-written : (name value : List ℕ) → 0 < length name → list_all is_name_byte name ≡ true → list_all is_plain value ≡ true → IsWritten (name, value)
-written name value some each plain = record { name = record { some = some; each = each }; value = plain }
+attribute_is_written : (name value : List ℕ) → 0 < length name → list_all is_name_byte name ≡ true → list_all is_plain value ≡ true → IsWritten (name, value)
+attribute_is_written name value some each plain = record { name = record { some = some; each = each }; value = plain }
 
 abbrev SettingsWritten : List Setting → Type 0
 SettingsWritten settings = AllByRecursion (λ s. IsWritten (s.name, s.value)) settings
@@ -89,24 +89,24 @@ both_written [] b h i = i
 both_written (s ∷ a) b h i = (h.0, both_written a b h.1 i)
 
 fill_written : (fill : Option Fill) → FillInRange fill → SettingsWritten (fill_settings fill)
-fill_written None h = (written _ _ (lit< tt) refl refl, tt)
-fill_written (Some f) h = (written _ _ (lit< tt) refl (rgb_plain f.rgb h), (written _ _ (lit< tt) refl (rule_plain f.rule), tt))
+fill_written None h = (attribute_is_written _ _ (lit< tt) refl refl, tt)
+fill_written (Some f) h = (attribute_is_written _ _ (lit< tt) refl (rgb_plain f.rgb h), (attribute_is_written _ _ (lit< tt) refl (rule_plain f.rule), tt))
 
 stroke_written : (stroke : Option Stroke) → StrokeInRange stroke → SettingsWritten (stroke_settings stroke)
 stroke_written None h = tt
 stroke_written (Some s) h = (
-  written _ _ (lit< tt) refl (rgb_plain s.rgb h.rgb),
+  attribute_is_written _ _ (lit< tt) refl (rgb_plain s.rgb h.rgb),
   (
-    written _ _ (lit< tt) refl (text_plain s.width (scaled_fits s.width h.width)),
+    attribute_is_written _ _ (lit< tt) refl (text_plain s.width (scaled_fits s.width h.width)),
     (
-      written _ _ (lit< tt) refl (cap_plain s.cap),
+      attribute_is_written _ _ (lit< tt) refl (cap_plain s.cap),
       (
-        written _ _ (lit< tt) refl (join_plain s.join),
+        attribute_is_written _ _ (lit< tt) refl (join_plain s.join),
         (
-          written _ _ (lit< tt) refl (text_plain s.miter (scaled_fits s.miter h.miter)),
+          attribute_is_written _ _ (lit< tt) refl (text_plain s.miter (scaled_fits s.miter h.miter)),
           (
-            written _ _ (lit< tt) refl (dash_plain s.dash h.dash),
-            (written _ _ (lit< tt) refl (text_plain s.phase (scaled_fits s.phase h.phase)), tt),
+            attribute_is_written _ _ (lit< tt) refl (dash_plain s.dash h.dash),
+            (attribute_is_written _ _ (lit< tt) refl (text_plain s.phase (scaled_fits s.phase h.phase)), tt),
           ),
         ),
       ),
@@ -116,7 +116,7 @@ stroke_written (Some s) h = (
 
 path_written : (segs : List Seg) (fill : Option Fill) (stroke : Option Stroke) → ItemInRange (Path segs fill stroke) → AllByRecursion IsWritten (path_attributes segs fill stroke)
 path_written segs fill stroke h =
-    (written _ _ (lit< tt) refl (data_plain segs h.0), written_back (fill_settings fill ++ stroke_settings stroke) (both_written (fill_settings fill) (stroke_settings stroke) (fill_written fill h.1) (stroke_written stroke h.2)))
+    (attribute_is_written _ _ (lit< tt) refl (data_plain segs h.0), written_back (fill_settings fill ++ stroke_settings stroke) (both_written (fill_settings fill) (stroke_settings stroke) (fill_written fill h.1) (stroke_written stroke h.2)))
 
 -- which names the settings have
 record Named (settings : List Setting) : Type 0 where
@@ -125,7 +125,7 @@ record Named (settings : List Setting) : Type 0 where
   among : are_among (codes "d" ∷ paint_names) (differing settings) ≡ true
 
 named_by : (settings : List Setting) → has_name (codes "d") settings ≡ false → are_apart settings ≡ true → list_all (λ s. list_any (bytes_eq s.name) (codes "d" ∷ paint_names)) settings ≡ true → Named settings
-named_by settings d a n = record { no_data = absent (codes "d") settings d; apart = distinct_back settings a; among = among_back (codes "d" ∷ paint_names) settings n }
+named_by settings d a n = record { no_data = absent_name_has_no_value (codes "d") settings d; apart = distinct_back settings a; among = among_back (codes "d" ∷ paint_names) settings n }
 
 settings_named : (fill : Option Fill) (stroke : Option Stroke) → Named (fill_settings fill ++ stroke_settings stroke)
 settings_named None None = named_by _ refl refl refl
@@ -200,18 +200,18 @@ box_fits d f = (f.left, (omega (arith, f.top, unsigned_abs-neg d.frame.top), (f.
 
 svg_written : (d : Drawing) → Fits d → IsScaled d.size → AllByRecursion IsWritten (svg_attributes d)
 svg_written d f s = (
-  written _ _ (lit< tt) refl refl,
+  attribute_is_written _ _ (lit< tt) refl refl,
   (
-    written _ _ (lit< tt) refl refl,
+    attribute_is_written _ _ (lit< tt) refl refl,
     (
-      written _ _ (lit< tt) refl (points_plain (frame_width d.frame) f.width),
+      attribute_is_written _ _ (lit< tt) refl (points_plain (frame_width d.frame) f.width),
       (
-        written _ _ (lit< tt) refl (points_plain (frame_height d.frame) f.height),
+        attribute_is_written _ _ (lit< tt) refl (points_plain (frame_height d.frame) f.height),
         (
-          written _ _ (lit< tt) refl (numbers_plain (d.frame.left ∷ neg_ℤ d.frame.top ∷ frame_width d.frame ∷ frame_height d.frame ∷ []) (box_fits d f)),
+          attribute_is_written _ _ (lit< tt) refl (numbers_plain (d.frame.left ∷ neg_ℤ d.frame.top ∷ frame_width d.frame ∷ frame_height d.frame ∷ []) (box_fits d f)),
           (
-            written _ _ (lit< tt) refl (weaker is_family_char is_plain family_plain d.family f.family.each),
-            (written _ _ (lit< tt) refl (text_plain d.size (scaled_fits d.size s)), tt),
+            attribute_is_written _ _ (lit< tt) refl (weaker_test is_family_char is_plain family_plain d.family f.family.each),
+            (attribute_is_written _ _ (lit< tt) refl (text_plain d.size (scaled_fits d.size s)), tt),
           ),
         ),
       ),
@@ -291,7 +291,7 @@ document_means d f s h p =
       last = codes "\n";
       attributes = svg_attributes d;
       text = IsUtf8-from_ascii (document_text d) ascii;
-      allowed = ap (list_all is_xml_char) (chars-IsAscii (document_text d) ascii) ∙ weaker is_line is_xml_char line_is_xml (document_text d) lines;
+      allowed = ap (list_all is_xml_char) (chars-IsAscii (document_text d) ascii) ∙ weaker_test is_line is_xml_char line_is_xml (document_text d) lines;
       declared = document_parts (attributes_text (svg_attributes d)) (flat_map item_text d.items);
       opens = refl;
       has = attributes_back (svg_attributes d) _ (svg_written d f s) refl (_, inl refl);

@@ -38,12 +38,12 @@ value_in name initial [] = initial
 value_in name initial (s ∷ settings) = cond (bytes_eq name s.name) s.value (value_in name initial settings)
 
 -- a name that no setting has is no attribute's
-pub absent : (name : List ℕ) (settings : List Setting) → has_name name settings ≡ false → attribute name (differing settings) ≡ None
+pub absent_name_has_no_value : (name : List ℕ) (settings : List Setting) → has_name name settings ≡ false → attribute name (differing settings) ≡ None
 unfolding differing
-absent name [] h = refl
-absent name (s ∷ settings) h =
+absent_name_has_no_value name [] h = refl
+absent_name_has_no_value name (s ∷ settings) h =
     let both = or_false (bytes_eq name s.name) (has_name name settings) h in
-    by_test (bytes_eq s.value s.initial) (absent name settings both.1) both.0
+    by_test (bytes_eq s.value s.initial) (absent_name_has_no_value name settings both.1) both.0
   where
     by_test : (b : Bool) → attribute name (differing settings) ≡ None → bytes_eq name s.name ≡ false → attribute name (cond b (differing settings) ((s.name, s.value) ∷ differing settings)) ≡ None
     by_test true e f = e
@@ -53,13 +53,13 @@ not_true : (b : Bool) → not b ≡ true → b ≡ false
 not_true true e = absurd (false≢true e)
 not_true false e = refl
 
-here : (name initial : List ℕ) (s : Setting) (others : List Attribute) (same : Bool) → bytes_eq s.value s.initial ≡ same → name ≡ s.name → initial ≡ s.initial → attribute name others ≡ None → value_or_initial (cond same others ((s.name, s.value) ∷ others)) name initial ≡ s.value
-here name initial s others true t n i e = rw e (i ∙ sym ((bytes_eq-Decides s.value s.initial).0 t))
-here name initial s others false t n i e = let found : bytes_eq name s.name ≡ true = (bytes_eq-Decides name s.name).1 n in rw found refl
+value_at_its_name : (name initial : List ℕ) (s : Setting) (others : List Attribute) (same : Bool) → bytes_eq s.value s.initial ≡ same → name ≡ s.name → initial ≡ s.initial → attribute name others ≡ None → value_or_initial (cond same others ((s.name, s.value) ∷ others)) name initial ≡ s.value
+value_at_its_name name initial s others true t n i e = rw e (i ∙ sym ((bytes_eq-Decides s.value s.initial).0 t))
+value_at_its_name name initial s others false t n i e = let found : bytes_eq name s.name ≡ true = (bytes_eq-Decides name s.name).1 n in rw found refl
 
-elsewhere : (name initial : List ℕ) (s : Setting) (others : List Attribute) (same : Bool) → bytes_eq name s.name ≡ false → value_or_initial (cond same others ((s.name, s.value) ∷ others)) name initial ≡ value_or_initial others name initial
-elsewhere name initial s others true f = refl
-elsewhere name initial s others false f = rw f refl
+value_elsewhere : (name initial : List ℕ) (s : Setting) (others : List Attribute) (same : Bool) → bytes_eq name s.name ≡ false → value_or_initial (cond same others ((s.name, s.value) ∷ others)) name initial ≡ value_or_initial others name initial
+value_elsewhere name initial s others true f = refl
+value_elsewhere name initial s others false f = rw f refl
 
 pub given_back : (name initial : List ℕ) (settings : List Setting) → is_set name initial settings ≡ true → value_or_initial (differing settings) name initial ≡ value_in name initial settings
 unfolding differing
@@ -69,15 +69,15 @@ given_back name initial (s ∷ settings) h = by_name (bytes_eq name s.name) refl
     by_name : (b : Bool) → bytes_eq name s.name ≡ b → cond b (bytes_eq initial s.initial && not (has_name name settings)) (is_set name initial settings) ≡ true → (is_set name initial settings ≡ true → value_or_initial (differing settings) name initial ≡ value_in name initial settings) → value_or_initial (differing (s ∷ settings)) name initial ≡ cond b s.value (value_in name initial settings)
     by_name true e g more =
         let both = and_true (bytes_eq initial s.initial) (not (has_name name settings)) g in
-        here name initial s (differing settings) (bytes_eq s.value s.initial) refl ((bytes_eq-Decides name s.name).0 e) ((bytes_eq-Decides initial s.initial).0 both.0) (absent name settings (not_true _ both.1))
-    by_name false e g more = elsewhere name initial s (differing settings) (bytes_eq s.value s.initial) e ∙ more g
+        value_at_its_name name initial s (differing settings) (bytes_eq s.value s.initial) refl ((bytes_eq-Decides name s.name).0 e) ((bytes_eq-Decides initial s.initial).0 both.0) (absent_name_has_no_value name settings (not_true _ both.1))
+    by_name false e g more = value_elsewhere name initial s (differing settings) (bytes_eq s.value s.initial) e ∙ more g
 
 pub distinct_back : (settings : List Setting) → are_apart settings ≡ true → are_distinct (differing settings) ≡ true
 unfolding differing
 distinct_back [] h = refl
 distinct_back (s ∷ settings) h =
     let both = and_true (not (has_name s.name settings)) (are_apart settings) h in
-    by_test (bytes_eq s.value s.initial) (absent s.name settings (not_true _ both.0)) (distinct_back settings both.1)
+    by_test (bytes_eq s.value s.initial) (absent_name_has_no_value s.name settings (not_true _ both.0)) (distinct_back settings both.1)
   where
     by_test : (b : Bool) → attribute s.name (differing settings) ≡ None → are_distinct (differing settings) ≡ true → are_distinct (cond b (differing settings) ((s.name, s.value) ∷ differing settings)) ≡ true
     by_test true e f = f

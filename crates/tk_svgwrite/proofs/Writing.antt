@@ -54,8 +54,8 @@ attribute_step done a before now new so_far more =
     more ∙ ap (λ (w : List ℕ). w ++ attribute_text a) so_far ∙ flat_map_more attribute_text before done a
 
 -- a middle part that is written in three steps
-inner : (before a b c : List ℕ) → ((before ++ a) ++ b) ++ c ≡ before ++ (a ++ b ++ c)
-inner before a b c = simp append_assoc
+joined_inside : (before a b c : List ℕ) → ((before ++ a) ++ b) ++ c ≡ before ++ (a ++ b ++ c)
+joined_inside before a b c = simp append_assoc
 
 -- ---- dashes
 
@@ -75,7 +75,7 @@ pub some_dashes : (before opened now : List ℕ) (x : ℤ) (xs ds : List ℤ) �
 some_dashes before opened now x xs ds is o n h d =
     let few : length (x ∷ xs) ≤ 16 = subst (λ (w : List ℤ). length w ≤ 16) is d.few in
     let same : settings_text (dash_setting ds ∷ []) ≡ settings_text (dash_setting (x ∷ xs) ∷ []) = ap (λ (w : List ℤ). settings_text (dash_setting w ∷ [])) is in
-    ap (λ (w : List ℕ). w ++ codes "\"") (n ∙ ap (λ (w : List ℕ). w ++ numbers_text (x ∷ xs)) o) ∙ inner before (codes " " ++ codes "stroke-dasharray" ++ codes "=\"") (numbers_text (x ∷ xs)) (codes "\"")
+    ap (λ (w : List ℕ). w ++ codes "\"") (n ∙ ap (λ (w : List ℕ). w ++ numbers_text (x ∷ xs)) o) ∙ joined_inside before (codes " " ++ codes "stroke-dasharray" ++ codes "=\"") (numbers_text (x ∷ xs)) (codes "\"")
     ∙ ap (λ w. before ++ w) (sym (same ∙ dashes_text x xs h few))
 
 -- ---- elements
@@ -110,7 +110,7 @@ path_parts before opened described all segs fill stroke o d e =
 
 pub svg_parts : (before now : List ℕ) (d : Drawing) → now ≡ (before ++ codes "<svg") ++ attributes_text (svg_attributes d) → now ++ codes ">\n" ≡ before ++ svg_text d
 unfolding svg_text
-svg_parts before now d e = ap (λ (w : List ℕ). w ++ codes ">\n") e ∙ inner before (codes "<svg") (attributes_text (svg_attributes d)) (codes ">\n")
+svg_parts before now d e = ap (λ (w : List ℕ). w ++ codes ">\n") e ∙ joined_inside before (codes "<svg") (attributes_text (svg_attributes d)) (codes ">\n")
 
 -- ---- steps of loops
 
@@ -130,7 +130,7 @@ letters_step xs i x before now new lt here so_far more =
 
 pub family_parts : (before opened now family : List ℕ) (i : ℕ) → length family ≤ i → opened ≡ before ++ (codes " " ++ codes "font-family" ++ codes "=\"") → now ≡ opened ++ take i family → now ++ codes "\"" ≡ before ++ attribute_text (codes "font-family", family)
 family_parts before opened now family i le o n =
-    ap (λ (w : List ℕ). w ++ codes "\"") (n ∙ ap (λ (w : List ℕ). opened ++ w) (take_all i family le) ∙ ap (λ (w : List ℕ). w ++ family) o) ∙ inner before (codes " " ++ codes "font-family" ++ codes "=\"") family (codes "\"")
+    ap (λ (w : List ℕ). w ++ codes "\"") (n ∙ ap (λ (w : List ℕ). opened ++ w) (take_all i family le) ∙ ap (λ (w : List ℕ). w ++ family) o) ∙ joined_inside before (codes " " ++ codes "font-family" ++ codes "=\"") family (codes "\"")
 
 -- ---- a fill and a stroke
 

@@ -29,8 +29,8 @@ before_false : (a b : Bool) → a ≡ false → (a && b) ≡ false
 before_false a b e = ap (λ (a : Bool). a && b) e
 
 -- neither of two tests holds
-neither : (a b : Bool) → a ≡ false → b ≡ false → (a || b) ≡ false
-neither a b e h = ap (λ (a : Bool). a || b) e ∙ h
+neither_is_false : (a b : Bool) → a ≡ false → b ≡ false → (a || b) ≡ false
+neither_is_false a b e h = ap (λ (a : Bool). a || b) e ∙ h
 
 -- no character is in front of a `|` that isn't there
 no_bar_in_front : (ts : List Tok) → list_any is_bar ts ≡ false → begins_text (124 ∷ []) ts ≡ false
@@ -40,7 +40,7 @@ no_bar_in_front (t ∷ ts) n = before_false (is_bar t) true (or_left (is_bar t) 
 -- no corner is in front
 not_in_front : (t : Tok) (ts : List Tok) → is_bar t ≡ false → list_any is_bar ts ≡ false → begins_corner (t ∷ ts) ≡ false
 not_in_front t ts e n =
-    neither (begins_text (codes "-|") (t ∷ ts)) (begins_text (codes "|-") (t ∷ ts)) (after_false (is_char 45 t.kind) (begins_text (124 ∷ []) ts) (no_bar_in_front ts n)) (before_false (is_bar t) (begins_text (45 ∷ []) ts) e)
+    neither_is_false (begins_text (codes "-|") (t ∷ ts)) (begins_text (codes "|-") (t ∷ ts)) (after_false (is_char 45 t.kind) (begins_text (124 ∷ []) ts) (no_bar_in_front ts n)) (before_false (is_bar t) (begins_text (45 ∷ []) ts) e)
 
 -- the search goes past a token that begins none
 goes_on : (depth : ℕ) (t : Tok) (ts : List Tok) → begins_corner (t ∷ ts) ≡ false → first_outside_in begins_corner (depth_after depth t.kind) ts ≡ None → (b : Bool) → (depth == 0 && is_close t.kind) ≡ b → first_outside_in begins_corner depth (t ∷ ts) ≡ None

@@ -15,9 +15,9 @@ no_line_end c h = grind (arith, nat_tests)
 a_line_end : (c : ℕ) → c ≡ 10 → not (is_line_end c) ≡ false
 a_line_end c h = grind (arith, nat_tests)
 
-boundary : (text : List ℕ) (start : ℕ) → IsUtf8 text → start ≤ length text → (0 < start → get_or text (start - 1) 0 ≡ 10) → IsCharBoundary text start
-boundary text zero utf8 within before = IsCharBoundary-start text utf8
-boundary text (suc n) utf8 within before =
+line_start_is_a_boundary : (text : List ℕ) (start : ℕ) → IsUtf8 text → start ≤ length text → (0 < start → get_or text (start - 1) 0 ≡ 10) → IsCharBoundary text start
+line_start_is_a_boundary text zero utf8 within before = IsCharBoundary-start text utf8
+line_start_is_a_boundary text (suc n) utf8 within before =
     let less : suc n - 1 ≡ n = omega arith in
     let end : get_or text n 0 ≡ 10 = ap (λ (m : ℕ). get_or text m 0) (sym less) ∙ before (omega arith) in
     let more : n + 1 ≡ suc n = omega arith in
@@ -34,7 +34,7 @@ module _ (text : List ℕ) (start : ℕ) (within : start ≤ length text) (since
 
   -- is text
   last_line_is_text : IsUtf8 text → (0 < start → get_or text (start - 1) 0 ≡ 10) → IsUtf8 (take (length text - start) (drop start text))
-  last_line_is_text utf8 before = rw (all_taken text start) (IsUtf8-drop text start utf8 (boundary text start utf8 within before))
+  last_line_is_text utf8 before = rw (all_taken text start) (IsUtf8-drop text start utf8 (line_start_is_a_boundary text start utf8 within before))
 
 line_end_passes : (c : ℕ) → c ≡ 10 → (c == 10) ≡ true
 line_end_passes c h = grind (arith, nat_tests)

@@ -39,15 +39,15 @@ at_older (w ∷ ws) word (suc n) lt = at_older ws word n (omega arith)
 abbrev Place : List (List ℕ) → ℕ → Type 0
 Place words k = (k < length words) ⊎ (k ≡ length words)
 
-place : (words : List (List ℕ)) (k : ℕ) → k < length words + 1 → Place words k
-place words k lt = elim (eq-or-lt_of_le {n = k} {m = length words} (omega arith)) [ inl a ↦ inr a | inr b ↦ inl b ]
+place_among_words : (words : List (List ℕ)) (k : ℕ) → k < length words + 1 → Place words k
+place_among_words words k lt = elim (eq-or-lt_of_le {n = k} {m = length words} (omega arith)) [ inl a ↦ inr a | inr b ↦ inl b ]
 
 module _ (words : List (List ℕ)) (word : List ℕ) (once : EachOnce words) (none : has_word words word ≡ false) where
   new_differs : (m n : ℕ) → m < length words → n ≡ length words → slice_get (words ++ word ∷ []) m ≡ slice_get (words ++ word ∷ []) n → ⊥
   new_differs m n lt is e = not_there words word m none (sym (at_older words word m lt) ∙ e ∙ ap (slice_get (words ++ word ∷ [])) is ∙ at_last words word)
 
   one_more : EachOnce (words ++ word ∷ [])
-  one_more m n lm ln e = by_places (place words m (omega (arith, length-append words (word ∷ [])))) (place words n (omega (arith, length-append words (word ∷ []))))
+  one_more m n lm ln e = by_places (place_among_words words m (omega (arith, length-append words (word ∷ [])))) (place_among_words words n (omega (arith, length-append words (word ∷ []))))
     where
       by_places : Place words m → Place words n → m ≡ n
       by_places (inl a) (inl b) = once m n a b (sym (at_older words word m a) ∙ e ∙ at_older words word n b)

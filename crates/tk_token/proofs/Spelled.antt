@@ -11,8 +11,8 @@ abbrev pub behind : List ℕ → Option (List ℕ) → Option (List ℕ)
 behind text found = option_map (λ cs. text ++ encode_utf8_all cs) found
 
 -- at the front is all
-pub starts : (ts : List Tok) → text_in ts ≡ behind [] (characters_of ts)
-starts ts = refl
+pub text_starts : (ts : List Tok) → text_in ts ≡ behind [] (characters_of ts)
+text_starts ts = refl
 
 module _ (text : List ℕ) where
   more_is : (c : ℕ) (found : Option (List ℕ)) → behind text (option_map (λ cs. c ∷ cs) found) ≡ behind (text ++ encode_utf8 c) found

@@ -67,8 +67,8 @@ module _ (n : ℕ) where
   pub total : (cs : List ℕ) → Some_tokens n cs
   total cs = up_to (length cs) cs (omega arith)
 
-pub lexes : (source : List ℕ) → (answer : Answer (List Token)) × Lexes source answer
-lexes source = by_fault (text_fault source) refl
+pub each_source_lexes : (source : List ℕ) → (answer : Answer (List Token)) × Lexes source answer
+each_source_lexes source = by_fault (text_fault source) refl
   where
     by_fault : (o : Option Fault) → text_fault source ≡ o → (answer : Answer (List Token)) × Lexes source answer
     by_fault (Some f) e = (Err f, refused e)

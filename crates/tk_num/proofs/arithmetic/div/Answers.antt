@@ -2,7 +2,7 @@ use Rattle.std.proofs.Common.{◌≡◌, ◌∙◌, ap, sym, arith, subst, ◌*�
 use Rattle.std.specs.Int.{w64}
 use Rattle.std.proofs.lemmas.Int.{to_z-of_z}
 use Rattle.tk_num.specs.Number.{scaled, quotient, IsScaled}
-use Rattle.tk_num.proofs.Wrap.{wrapped_mul, product_small, fits, quotient_is, abs_of_bits}
+use Rattle.tk_num.proofs.Wrap.{wrapped_mul, product_small, fits_signed_64, quotient_is, abs_of_bits}
 use Rattle.tk_num.proofs.arithmetic.div.Goals as goal
 
 pub returns : goal.returns
@@ -15,10 +15,10 @@ returns c =
     let value : c.cut.result ≡ int_div (x *ℤ pos 65536) y =
     c.cut.ensures.value
     ∙ ap (λ z. int_div z (to_z w64 (of_z w64 y))) (wrapped_mul x (pos 65536) c.sp-2.ensures.range (omega arith))
-    ∙ ap (λ z. int_div (x *ℤ pos 65536) z) (to_z-of_z w64 y (fits y (omega (arith, ry)))) in
+    ∙ ap (λ z. int_div (x *ℤ pos 65536) z) (to_z-of_z w64 y (fits_signed_64 y (omega (arith, ry)))) in
     let most : unsigned_abs c.cut.result ≤ unsigned_abs (x *ℤ pos 65536) = subst (λ z. unsigned_abs c.cut.result ≤ unsigned_abs z) (wrapped_mul x (pos 65536) c.sp-2.ensures.range (omega arith)) c.cut.ensures.small in
     c.in_range.ensures
-    ∙ ap scaled (to_z-of_z w64 c.cut.result (fits c.cut.result (omega (arith, most, product_small x (pos 65536) c.sp-2.ensures.range (omega arith)))))
+    ∙ ap scaled (to_z-of_z w64 c.cut.result (fits_signed_64 c.cut.result (omega (arith, most, product_small x (pos 65536) c.sp-2.ensures.range (omega arith)))))
     ∙ quotient_is x y c.cut.result some value
     ∙ ap (λ z. quotient z y) c.sp-2.ensures.value
     ∙ ap (λ z. quotient c.args.x z) c.sp-3.ensures.value

@@ -2,7 +2,7 @@ use Rattle.std.proofs.Common.{◌≡◌, ◌≤◌, ◌∙◌, ap, subst, arith,
 use Rattle.std.specs.Int.{w64}
 use Rattle.std.proofs.lemmas.Int.{to_z-of_z, ints}
 use Rattle.tk_num.proofs.Carry.{font_length}
-use Rattle.tk_num.proofs.Wrap.{wrapped_mul, wrapped_add, product_small, sum_fits, fits}
+use Rattle.tk_num.proofs.Wrap.{wrapped_mul, wrapped_add, product_small, sum_fits, fits_signed_64}
 use Rattle.tk_num.specs.Number.{IsWhole, IsFraction}
 use Rattle.tk_num.proofs.unit.in_font_unit.Goals as goal
 
@@ -23,7 +23,7 @@ pub overflow_add-result : goal.overflow_add-result
 overflow_add-result c =
     let whole = whole_small c.args.whole c.requires.whole in
     let first = wrapped_mul c.args.whole c.sp.result whole c.sp.ensures.range in
-    let second = to_z-of_z w64 c.cut.result (fits c.cut.result (omega (arith, cut_small c))) in
+    let second = to_z-of_z w64 c.cut.result (fits_signed_64 c.cut.result (omega (arith, cut_small c))) in
     let small = product_small c.args.whole c.sp.result whole c.sp.ensures.range in
     rw (first, second) (sum_fits (c.args.whole *ℤ c.sp.result) c.cut.result small (cut_small c))
 
@@ -31,7 +31,7 @@ pub returns : goal.returns
 returns c =
     let whole = whole_small c.args.whole c.requires.whole in
     let first = wrapped_mul c.args.whole c.sp.result whole c.sp.ensures.range in
-    let second = to_z-of_z w64 c.cut.result (fits c.cut.result (omega (arith, cut_small c))) in
+    let second = to_z-of_z w64 c.cut.result (fits_signed_64 c.cut.result (omega (arith, cut_small c))) in
     let small = product_small c.args.whole c.sp.result whole c.sp.ensures.range in
     let cut : c.cut.result ≡ int_div (c.args.frac *ℤ c.args.unit) (pos 65536) =
     c.cut.ensures.value

@@ -1,5 +1,5 @@
-use Rattle.tk_token.proofs.Total.{lexes}
+use Rattle.tk_token.proofs.Total.{each_source_lexes}
 use Rattle.tk_token.proofs.laws.each_source_lexes.Goals as goal
 
 pub returns : goal.returns
-returns c = lexes
+returns c = each_source_lexes

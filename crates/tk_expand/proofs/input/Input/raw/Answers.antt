@@ -1,7 +1,7 @@
 use Rattle.std.proofs.Common.{◌≡◌, suc, ◌-◌, List, [], ◌∷◌, length, refl, sym, ap, ◌∙◌, arith}
 use Rattle.tk_token.specs.declared.Tok.{Tok}
 use Rattle.tk_expand.specs.Unread.{Unread}
-use Rattle.tk_expand.proofs.Stacks.{taken, taken-out, none-left}
+use Rattle.tk_expand.proofs.Stacks.{taken-within, taken-out, none-left}
 use Rattle.tk_expand.proofs.input.Input.raw.Goals as goal
 
 -- a list of 0 tokens has none
@@ -25,4 +25,4 @@ pub returns-else-is_empty-2-clause-rest : goal.returns-else-is_empty-2-clause-re
 returns-else-is_empty-2-clause-rest c =
     let last : suc (c.len-last.result - 1) ≡ length c.self.inside.stack.items = grind (arith, c.self.inside.stack.ok.0, c.is_empty.ensures, c.if-is_empty.false, c.len-last.ensures) in
     ap (λ (u : Unread). u.rest) (sym c.self.view_is)
-    ∙ taken c.self.inside.stack.items (c.len-last.result - 1) c.index_mut-list.result.now c.take-tok.new.self c.take-tok.result last c.index_mut-list.ensures.value c.take-tok.ensures
+    ∙ taken-within c.self.inside.stack.items (c.len-last.result - 1) c.index_mut-list.result.now c.take-tok.new.self c.take-tok.result last c.index_mut-list.ensures.value c.take-tok.ensures

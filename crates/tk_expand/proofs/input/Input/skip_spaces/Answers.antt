@@ -1,6 +1,6 @@
 use Rattle.std.proofs.Common.{◌≡◌, ◌∷◌, ◌∙◌, ap, sym, length, arith}
 use Rattle.tk_expand.specs.Unread.{past_spaces}
-use Rattle.tk_expand.proofs.Written.{first_dropped, passed_over, stays, none_stays, same_list}
+use Rattle.tk_expand.proofs.Written.{first_dropped, passed_over, without_space_stays, none_stays, same_list}
 use Rattle.tk_expand.proofs.input.Input.skip_spaces.Goals as goal
 
 pub loop-tok-smaller : goal.loop-tok-smaller
@@ -19,7 +19,7 @@ loop-tok-preserved c =
 pub returns-then-not-is_space : goal.returns-then-not-is_space
 returns-then-not-is_space c =
     same_list c.loop-tok.self (past_spaces c.args.self.now)
-    (sym (c.loop-tok.invariant.told ∙ stays c.loop-tok.self.rest c.in-Some.tok (sym c.first.ensures ∙ c.in-Some.is) (sym c.is_space.ensures ∙ c.if-not-is_space.true)))
+    (sym (c.loop-tok.invariant.told ∙ without_space_stays c.loop-tok.self.rest c.in-Some.tok (sym c.first.ensures ∙ c.in-Some.is) (sym c.is_space.ensures ∙ c.if-not-is_space.true)))
     c.loop-tok.invariant.end
 
 pub returns : goal.returns

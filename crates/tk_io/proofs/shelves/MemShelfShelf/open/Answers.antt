@@ -3,7 +3,7 @@ use Rattle.tk_io.specs.Shelf.{Opens}
 use Rattle.tk_io.specs.Desk.{OnDesk, find_file, opened_at}
 use Rattle.tk_io.specs.Stock.{Stock, stock_means}
 use Rattle.tk_io.specs.StockView.{shown_stock}
-use Rattle.tk_io.proofs.DeskFiles.{named}
+use Rattle.tk_io.proofs.DeskFiles.{found_file_has_its_name}
 use Rattle.tk_io.proofs.StockSteps.{called-is, found_is, fits_there, listed_is, Opens-opened, Opens-blamed, OpensStock-listed}
 use Rattle.tk_io.proofs.shelves.MemShelfShelf.open.Goals as goal
 
@@ -25,7 +25,7 @@ returns-then-contains-clause-exactly c =
 pub open_at-requires : goal.open_at-requires
 open_at-requires c =
     let there = sym c.in-Some.ensures.place in
-    ap (find_file c.close.new.self) (named c.close.new.self c.in-Some.place c.args.name.now there) ∙ there
+    ap (find_file c.close.new.self) (found_file_has_its_name c.close.new.self c.in-Some.place c.args.name.now there) ∙ there
 
 pub returns-clause-opens : goal.returns-clause-opens
 returns-clause-opens c =

@@ -3,14 +3,14 @@ use Rattle.tk_io.specs.declared.sure.Absent.TheVariants.{Nothing}
 use Rattle.tk_io.specs.Shelf.{Opens}
 use Rattle.tk_io.specs.Desk.{OnDesk, find_file, opened_at}
 use Rattle.tk_io.specs.SureShelf.{Sure, sure_means}
-use Rattle.tk_io.proofs.DeskFiles.{named}
+use Rattle.tk_io.proofs.DeskFiles.{found_file_has_its_name}
 use Rattle.tk_io.proofs.SureSteps.{Sure-opened}
 use Rattle.tk_io.proofs.sure.SureShelfShelf.open.Goals as goal
 
 pub open_at-requires : goal.open_at-requires
 open_at-requires c =
     let there = sym c.in-Some.ensures.place in
-    ap (find_file c.self.inside.desk) (named c.self.inside.desk c.in-Some.place c.args.name.now there) ∙ there
+    ap (find_file c.self.inside.desk) (found_file_has_its_name c.self.inside.desk c.in-Some.place c.args.name.now there) ∙ there
 
 pub returns-in-Some-clause-opens : goal.returns-in-Some-clause-opens
 returns-in-Some-clause-opens c =

@@ -1,7 +1,7 @@
 use Rattle.std.proofs.Common.{subst, sym, ap, ◌∙◌}
 use Rattle.tk_path.specs.CurrentPaths.{CurrentPath}
 use Rattle.tk_path.specs.Views.{IsTraced}
-use Rattle.tk_path.proofs.Tracing.{appended, circle_added}
+use Rattle.tk_path.proofs.Tracing.{appended_pieces_trace, circle_added}
 use Rattle.tk_path.proofs.trace.CurrentPath.circle.Goals as goal
 
 pub invariant_of-self : goal.invariant_of-self
@@ -9,4 +9,4 @@ invariant_of-self c =
     let none = ap (λ (p : CurrentPath). p.start) (c.self.view_is ∙ c.take_segs-segs.ensures.path) in
     subst (IsTraced c.push_circle.new.segs) (sym none)
     (circle_added c.take_segs-segs.result c.push_circle.new.segs c.args.matrix c.current_point-centre.result c.args.rx c.args.ry c.take_segs-segs.ensures.first
-    (appended c.take_segs-segs.result c.push_circle.new.segs c.in_ok-done.done _ (sym c.if-is_ok.ensures.value) c.in_ok-done.ensures.gives))
+    (appended_pieces_trace c.take_segs-segs.result c.push_circle.new.segs c.in_ok-done.done _ (sym c.if-is_ok.ensures.value) c.in_ok-done.ensures.gives))
