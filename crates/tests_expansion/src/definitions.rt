@@ -8,8 +8,8 @@ use tk_store::{Body, Store};
 use tk_token::{Code, Fault, Kind, Lexed, Names, Refusal, Tok, lex};
 
 /// A text, how many tokens of it the list has, the budget, the units that are paid, and what the text shows once its
-/// definitions are made and its calls are replaced, or the fault with its place. The list runs out at 777. A call costs 1
-/// and the tokens of its body with the arguments put in.
+/// definitions are made and its calls are replaced, or the fault with its place. The list runs out at 777. A call costs
+/// 1 and the tokens of its body with the arguments put in.
 const DEFINED: [(&str, usize, u64, u64, &str); 53] = [
     (r"\def\f{}\f", 99, 1, 1, ""),
     (r"\def\f{}\f", 99, 0, 0, "Budget 8"),

@@ -22,8 +22,9 @@ const MACROS: [(char, u8, &str); 7] = [
     ('L', 0, "L"),
 ];
 
-/// A text, the budget, the units that are paid, and the expanded text or the fault with its place. A capital is a control
-/// word, `_` a gap. A token of the text has the place of its character, a token of a body that of its character after 100.
+/// A text, the budget, the units that are paid, and the expanded text or the fault with its place. A capital is a
+/// control word, `_` a gap. A token of the text has the place of its character, a token of a body that of its character
+/// after 100.
 const EXPANDED: [(&str, u64, u64, &str); 30] = [
     ("", 0, 0, ""),
     ("ab{c}_", 0, 0, "ab{c}_"),
@@ -67,12 +68,13 @@ const EXPANDED: [(&str, u64, u64, &str); 30] = [
     ("Fx", 0, 0, "Budget 0"),
     // What never ends is ended: `L` costs 2 each time.
     ("L", 20_000, 20_000, "Budget 100"),
-    // The argument of the 13 calls that are paid is doubled each time, from 1 token on: they cost 4 + 2, up to 4 + 2^13.
+    // The argument of the 13 calls that are paid is doubled each time, from 1 token on: they cost 4 + 2, up to 4 +
+    // 2^13.
     ("Dx", 20_000, 16_434, "Budget 100"),
 ];
 
-/// A list, a call, what it gives, the units that it costs, and what it leaves. What stands before a `|` is a list that was
-/// put in front of the other. A fault stands at its token, or at 77, where the list runs out.
+/// A list, a call, what it gives, the units that it costs, and what it leaves. What stands before a `|` is a list that
+/// was put in front of the other. A fault stands at its token, or at 77, where the list runs out.
 const READ: [(&str, &str, &str, u64, &str); 66] = [
     ("ab", "first", "a", 0, "ab"),
     ("|ab", "first", "a", 0, "ab"),
@@ -144,8 +146,8 @@ const READ: [(&str, &str, &str, u64, &str); 66] = [
     ("_F", "solid", "MacroArg 1", 0, ""),
 ];
 
-/// Arguments, each with a `;` behind it, the body that they are put in, the budget, the units that are paid, and the text or
-/// the fault. A text costs one unit more than it has tokens.
+/// Arguments, each with a `;` behind it, the body that they are put in, the budget, the units that are paid, and the
+/// text or the fault. A text costs one unit more than it has tokens.
 const PAID: [(&str, &str, u64, u64, &str); 12] = [
     ("", "(a)", 4, 4, "(a)"),
     ("", "(a)", 3, 0, "Budget 5"),

@@ -1,5 +1,5 @@
-//! Expressions with their values, worked out by hand: one point is 65,536 scaled points, and the font has an em of 10pt and
-//! an ex of 4.3pt.
+//! Expressions with their values, worked out by hand: one point is 65,536 scaled points, and the font has an em of 10pt
+//! and an ex of 4.3pt.
 
 use std::alloc::{AllocError, Global};
 use std::process::Abort;

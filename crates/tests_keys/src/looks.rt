@@ -1,5 +1,5 @@
-//! What no clause says: that the calls succeed with ample memory, and values worked out by hand. A point is 65,536 scaled
-//! points, a centimetre 1,864,679, and the font has an em of 10pt and an ex of 4.3pt.
+//! What no clause says: that the calls succeed with ample memory, and values worked out by hand. A point is 65,536
+//! scaled points, a centimetre 1,864,679, and the font has an em of 10pt and an ex of 4.3pt.
 
 use std::alloc::{AllocError, Global};
 use std::process::Abort;

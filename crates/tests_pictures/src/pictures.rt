@@ -1,5 +1,5 @@
-//! What no clause says: that a picture is drawn with ample memory. Lines of pictures with a budget, and what they cost and
-//! draw or are refused for, worked out by hand.
+//! What no clause says: that a picture is drawn with ample memory. Lines of pictures with a budget, and what they cost
+//! and draw or are refused for, worked out by hand.
 
 use std::alloc::{AllocError, Global};
 use std::test::Fail;
@@ -7,8 +7,8 @@ use tk_item::{Frame, Item, Seg};
 use tk_picture::*;
 use tk_token::{Code, Fault, Refusal};
 
-/// A line of a picture, the budget, and the units that it costs with the paths that it draws, or its fault with the column,
-/// counted from 1. One centimetre is 1,864,679 scaled points.
+/// A line of a picture, the budget, and the units that it costs with the paths that it draws, or its fault with the
+/// column, counted from 1. One centimetre is 1,864,679 scaled points.
 const LINES: [(&str, u64, &str); 69] = [
     ("", 0, "0"),
     (r"\draw (0,0) -- (1,0);", 0, "0, M 0 0 L 1864679 0"),

@@ -81,8 +81,8 @@ const HANDLERS: [(&str, Option<Handler>); 20] = [
     (".unknown", None),
 ];
 
-/// A handler, the entry that is there, the value if there is one, and the new entry: its run, its stored value and its need.
-/// `P` is the word `pgfkeysalso`, and the part stands at 50.
+/// A handler, the entry that is there, the value if there is one, and the new entry: its run, its stored value and its
+/// need. `P` is the word `pgfkeysalso`, and the part stands at 50.
 const EDITS: [(&str, &str, &str, &str); 44] = [
     (".code", "none", "x#1", "code 1 x[1];-;free"),
     (".code", "store", "##", "code 1 #;v;forbidden"),

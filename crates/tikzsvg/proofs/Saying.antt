@@ -9,7 +9,8 @@ use Rattle.tikzsvg.specs.declared.program.Status.TheVariants as statuses
 use Rattle.tikzsvg.specs.Lines.{placed_line}
 use Rattle.tikzsvg.specs.Run.{World, Says, whole, part}
 use Rattle.tikzsvg.specs.Refused.{Refuses, IsDocumentOf}
-use Rattle.tikzsvg.specs.Endings.{Ends, done, fault, too_long, read_fault, write_fault, out_of_memory, Delivers, Reports, line_of_cause, status_of_cause}
+use Rattle.tikzsvg.specs.Endings.{Ends, done, fault, too_long, read_fault, write_fault, out_of_memory, Delivers, Reports, line_of_cause}
+use Rattle.tikzsvg.specs.Endings.{status_of_cause}
 
 -- what writing a line says
 pub says_from : (line : List ℕ) (old new : Sunk) (r : Result (Unit {0}) Failed) → WritesAll line old new r → Says old new line
@@ -18,7 +19,8 @@ says_from line old new (Err e) w = part w.part.0 w.part.1 w.part.2 w.cause
 
 module _ (file : List ℕ) (budget : ℕ) (before after : World) where
   -- a document that was delivered
-  pub delivered : (document : List ℕ) (status : Status) → IsDocumentOf file budget before.shelf after.shelf document → Delivers document before.out after.out before.err after.err status → Ends file budget before after status
+  pub delivered : (document : List ℕ) (status : Status) → IsDocumentOf file budget before.shelf after.shelf document
+      → Delivers document before.out after.out before.err after.err status → Ends file budget before after status
   delivered document statuses.Done d w = done (record {
     drawing = d.drawing;
     drawn = d.drawn;
@@ -44,7 +46,8 @@ module _ (file : List ℕ) (budget : ℕ) (before after : World) where
   delivered document statuses.OutOfMemory d w = absurd w
 
   -- a cause that was told
-  told : (cause : NoDocument) → after.out ≡ before.out → Refuses file budget before.shelf after.shelf cause → Says before.err after.err (line_of_cause file cause) → Ends file budget before after (status_of_cause cause)
+  told : (cause : NoDocument) → after.out ≡ before.out → Refuses file budget before.shelf after.shelf cause
+      → Says before.err after.err (line_of_cause file cause) → Ends file budget before after (status_of_cause cause)
   told causes.ReadFault same r says = read_fault (record { cause = r; says = says; untouched = same })
   told causes.TooLong same r says = too_long (record { long = r; says = says; untouched = same })
   told (causes.Fault placed) same r says = fault (record {
@@ -56,6 +59,8 @@ module _ (file : List ℕ) (budget : ℕ) (before after : World) where
   })
   told causes.OutOfMemory same r says = out_of_memory (record { says = says; untouched = same })
 
-  pub reported : (cause : NoDocument) (status : Status) → after.out ≡ before.out → Refuses file budget before.shelf after.shelf cause → Reports file cause before.err after.err status → Ends file budget before after status
+  pub reported : (cause : NoDocument) (status : Status) → after.out ≡ before.out → Refuses file budget before.shelf after.shelf cause
+      → Reports file cause before.err after.err status → Ends file budget before after status
   reported cause status same r (inl t) = subst (λ s. Ends file budget before after s) (sym t.0) (told cause same r t.1)
-  reported cause status same r (inr t) = subst (λ s. Ends file budget before after s) (sym t.0) (out_of_memory (record { says = t.1; untouched = same }))
+  reported cause status same r (inr t) =
+      subst (λ s. Ends file budget before after s) (sym t.0) (out_of_memory (record { says = t.1; untouched = same }))

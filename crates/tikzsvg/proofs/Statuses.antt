@@ -1,5 +1,6 @@
 -- What the status of an end tells.
-use Rattle.std.proofs.Common.{◌≡◌, ◌≢◌, ◌⊎◌, inl, inr, ℕ, ◌<◌, ◌≤◌, List, [], length, Option, Some, None, Result, Ok, Err, IfSome, unwrap_or, refl, ap, sym, subst, ◌∙◌, arith}
+use Rattle.std.proofs.Common.{◌≡◌, ◌≢◌, ◌⊎◌, inl, inr, ℕ, ◌<◌, ◌≤◌, List, [], length, Option, Some, None, Result, Ok, Err, IfSome, unwrap_or, refl}
+use Rattle.std.proofs.Common.{ap, sym, subst, ◌∙◌, arith}
 use denote.Enum.Declared.{tag_of}
 use Rattle.tk_token.specs.declared.Fault.{Fault}
 use Rattle.tk_token.specs.Answers.{Answer}
@@ -12,7 +13,8 @@ use Rattle.tikzsvg.specs.declared.program.Status.TheVariants as statuses
 use Rattle.tikzsvg.specs.contracts.program.Status.{the_type}
 use Rattle.tikzsvg.specs.Words.{Command, Render}
 use Rattle.tikzsvg.specs.Lines.{fault_line}
-use Rattle.tikzsvg.specs.Run.{World, ComesTo, IsTold, WasRead, WasTooLong, Says, WritesDocument, Done, HasFault, IsTooLong, ReadFails, WriteFails, LacksMemory, UsesOne, Completes, NamesFault, RefusesLong, Renders, Runs}
+use Rattle.tikzsvg.specs.Run.{World, ComesTo, IsTold, WasRead, WasTooLong, Says, WritesDocument, Done, HasFault, IsTooLong, ReadFails, WriteFails}
+use Rattle.tikzsvg.specs.Run.{LacksMemory, UsesOne, Completes, NamesFault, RefusesLong, Renders, Runs}
 use Rattle.tikzsvg.specs.Endings.{Ends, done, fault, too_long, read_fault, write_fault, out_of_memory, EndsAsAsked}
 
 -- the number of a status
@@ -104,7 +106,9 @@ same_source : (shelf after : Shelved) (file source read : List ℕ) → IsTold f
 same_source shelf after file source read h w = subst (λ o. IfSome o (λ holds. read ≡ unwrap_or (holds file) [])) h.told w.is_source ∙ sym h.is
 
 long_source : (shelf after : Shelved) (file source : List ℕ) → IsTold file source shelf after → WasTooLong file shelf after → 16777216 < length source
-long_source shelf after file source h w = subst (λ (bytes : List ℕ). 16777216 < length bytes) (sym h.is) (subst (λ o. IfSome o (λ holds. 16777216 < length (unwrap_or (holds file) []))) h.told w.long)
+long_source shelf after file source h w =
+    subst (λ (bytes : List ℕ). 16777216 < length bytes) (sym h.is) (subst (λ o. IfSome o (λ holds. 16777216 < length (unwrap_or (holds file) [])))
+    h.told w.long)
 
 -- the drawing of what was compiled
 abbrev drawing_of : Result Compiled Fault → Result Drawing Fault
@@ -116,7 +120,8 @@ abbrev pub OneOutcome : Type 0
 OneOutcome = (budget : ℕ) (source : List ℕ) (a b : Answer Compiled) → IsOutcome budget source a → IsOutcome budget source b → a ≡ b
 
 -- so it comes to one drawing or fault
-one_outcome_of_a_source : OneOutcome → (budget : ℕ) (source : List ℕ) (r s : Result Drawing Fault) → ComesTo budget source r → ComesTo budget source s → r ≡ s
+one_outcome_of_a_source : OneOutcome → (budget : ℕ) (source : List ℕ) (r s : Result Drawing Fault) → ComesTo budget source r → ComesTo budget source s
+    → r ≡ s
 one_outcome_of_a_source law budget source (Ok d) (Ok e) x y = ap drawing_of (law budget source _ _ x.1 y.1)
 one_outcome_of_a_source law budget source (Ok d) (Err g) x y = ap drawing_of (law budget source _ _ x.1 y)
 one_outcome_of_a_source law budget source (Err f) (Ok e) x y = ap drawing_of (law budget source _ _ x y.1)
@@ -124,33 +129,45 @@ one_outcome_of_a_source law budget source (Err f) (Err g) x y = ap drawing_of (l
 
 module _ (law : OneOutcome) (file : List ℕ) (budget : ℕ) (b a : World) where
   -- what was drawn or broken was this source
-  drawn_is : (source read : List ℕ) (r s : Result Drawing Fault) → IsTold file source b.shelf a.shelf → WasRead file read b.shelf a.shelf → ComesTo budget read r → ComesTo budget source s → r ≡ s
-  drawn_is source read r s holds w is this = one_outcome_of_a_source law budget source r s (subst (λ (bytes : List ℕ). ComesTo budget bytes r) (same_source b.shelf a.shelf file source read holds w) is) this
+  drawn_is : (source read : List ℕ) (r s : Result Drawing Fault) → IsTold file source b.shelf a.shelf → WasRead file read b.shelf a.shelf
+      → ComesTo budget read r → ComesTo budget source s → r ≡ s
+  drawn_is source read r s holds w is this =
+      one_outcome_of_a_source law budget source r s (subst (λ (bytes : List ℕ). ComesTo budget bytes r) (same_source b.shelf a.shelf file source read
+      holds w) is) this
 
   completes_at : {s : Status} → Ends file budget b a s → Completes file budget b a (number s)
   completes_at (done r) source drawing told short is writes =
-      let this = ok_same r.drawing drawing (Ok drawing) (sym (drawn_is source r.drawn.source (Ok r.drawing) (Ok drawing) told r.drawn.read r.drawn.is is)) refl in
+      let this = ok_same r.drawing drawing (Ok drawing) (sym (drawn_is source r.drawn.source (Ok r.drawing) (Ok drawing) told r.drawn.read
+              r.drawn.is is)) refl in
       inl (refl, subst (λ (d : Drawing). WritesDocument d b.out a.out) this r.written)
-  completes_at (fault r) source drawing told short is writes = absurd (ok_is_no_err drawing r.fault (Ok drawing) refl (sym (drawn_is source r.source (Err r.fault) (Ok drawing) told r.broken.read r.broken.is is)))
-  completes_at (too_long r) source drawing told short is writes = absurd (let long : 16777216 < length source = long_source b.shelf a.shelf file source told r.long in omega arith)
+  completes_at (fault r) source drawing told short is writes =
+      absurd (ok_is_no_err drawing r.fault (Ok drawing) refl (sym (drawn_is source r.source (Err r.fault) (Ok drawing) told r.broken.read
+      r.broken.is is)))
+  completes_at (too_long r) source drawing told short is writes =
+      absurd (let long : 16777216 < length source = long_source b.shelf a.shelf file source told r.long in omega arith)
   completes_at (read_fault r) source drawing told short is writes = absurd (told.sound r.cause)
   completes_at (write_fault r) source drawing told short is writes = absurd (writes r.cause)
   completes_at (out_of_memory r) source drawing told short is writes = inr refl
 
   names_at : {s : Status} → Ends file budget b a s → NamesFault file budget b a (number s)
-  names_at (done r) source f told short is = absurd (ok_is_no_err r.drawing f (Err f) (sym (drawn_is source r.drawn.source (Ok r.drawing) (Err f) told r.drawn.read r.drawn.is is)) refl)
+  names_at (done r) source f told short is =
+      absurd (ok_is_no_err r.drawing f (Err f) (sym (drawn_is source r.drawn.source (Ok r.drawing) (Err f) told r.drawn.read r.drawn.is is)) refl)
   names_at (fault r) source f told short is =
       let same = same_source b.shelf a.shelf file source r.source told r.broken.read in
       let this = err_same r.fault f (Err f) (sym (drawn_is source r.source (Err r.fault) (Err f) told r.broken.read r.broken.is is)) refl in
-      inl (refl, subst (λ (bytes : List ℕ). Says b.err a.err (fault_line file bytes f)) same (subst (λ (g : Fault). Says b.err a.err (fault_line file r.source g)) this r.says))
-  names_at (too_long r) source f told short is = absurd (let long : 16777216 < length source = long_source b.shelf a.shelf file source told r.long in omega arith)
+      inl (refl, subst (λ (bytes : List ℕ). Says b.err a.err (fault_line file bytes f)) same
+          (subst (λ (g : Fault). Says b.err a.err (fault_line file r.source g)) this r.says))
+  names_at (too_long r) source f told short is =
+      absurd (let long : 16777216 < length source = long_source b.shelf a.shelf file source told r.long in omega arith)
   names_at (read_fault r) source f told short is = absurd (told.sound r.cause)
-  names_at (write_fault r) source f told short is = absurd (ok_is_no_err r.drawing f (Err f) (sym (drawn_is source r.drawn.source (Ok r.drawing) (Err f) told r.drawn.read r.drawn.is is)) refl)
+  names_at (write_fault r) source f told short is =
+      absurd (ok_is_no_err r.drawing f (Err f) (sym (drawn_is source r.drawn.source (Ok r.drawing) (Err f) told r.drawn.read r.drawn.is is)) refl)
   names_at (out_of_memory r) source f told short is = inr refl
 
   -- a longer file wasn't read
   too_short : (source read : List ℕ) → IsTold file source b.shelf a.shelf → WasRead file read b.shelf a.shelf → 16777216 < length source → ⊥
-  too_short source read told w long = let short : length source ≤ 16777216 = subst (λ (bytes : List ℕ). length bytes ≤ 16777216) (same_source b.shelf a.shelf file source read told w) w.short in omega arith
+  too_short source read told w long
+      = let short : length source ≤ 16777216 = subst (λ (bytes : List ℕ). length bytes ≤ 16777216) (same_source b.shelf a.shelf file source read told w) w.short in omega arith
 
   refuses_at : {s : Status} → Ends file budget b a s → RefusesLong file b a (number s)
   refuses_at (done r) source told long = absurd (too_short source r.drawn.source told r.drawn.read long)

@@ -8,7 +8,8 @@ use Rattle.tikzsvg.specs.declared.program.Status.{Status}
 use Rattle.tikzsvg.specs.declared.program.Status.TheVariants as statuses
 use Rattle.tikzsvg.specs.Words.{Command, Render}
 use Rattle.tikzsvg.specs.Lines.{placed_line, too_long_line, read_fault_line, write_fault_line, out_of_memory_line}
-use Rattle.tikzsvg.specs.Run.{World, Says, Done, HasFault, IsTooLong, IsUsage, ReadFails, WriteFails, LacksMemory, UsesOne}
+use Rattle.tikzsvg.specs.Run.{World, Says, Done, HasFault, IsTooLong, IsUsage, ReadFails, WriteFails, LacksMemory}
+use Rattle.tikzsvg.specs.Run.{UsesOne}
 
 -- how `render` of a file ends
 pub data Ends (file : List ℕ) (budget : ℕ) (before after : World) : Status → Type 0 where

@@ -2,7 +2,12 @@
 use Rattle.std.specs.Prelude.{ℕ, List, ◌++◌, codes, decimal}
 use Rattle.tk_token.specs.declared.Fault.{Fault}
 use Rattle.tk_token.specs.declared.Code.{Code}
-use Rattle.tk_token.specs.declared.Code.TheVariants.{NotUtf8, BadChar, Brace, TooDeep, TooLarge, DivZero, Domain, Expression, Singular, HandlerValue, MacroSyntax, MacroArg, Budget, Levels, KeyDepth, UnknownKey, ValueRequired, ValueForbidden, UnknownChoice, NotASetting, Colour, LoopSyntax, LoopItem, NoAnchor, NoGlyph, TextCommand, Math, Coordinate, NoNode, PathSyntax, UnknownCommand, EndMismatch, NoPicture, Font, TooLong, Unbuilt}
+use Rattle.tk_token.specs.declared.Code.TheVariants.{NotUtf8, BadChar, Brace, TooDeep, TooLarge, DivZero, Domain}
+use Rattle.tk_token.specs.declared.Code.TheVariants.{Expression, Singular, HandlerValue, MacroSyntax, MacroArg, Budget}
+use Rattle.tk_token.specs.declared.Code.TheVariants.{Levels, KeyDepth, UnknownKey, ValueRequired, ValueForbidden}
+use Rattle.tk_token.specs.declared.Code.TheVariants.{UnknownChoice, NotASetting, Colour, LoopSyntax, LoopItem, NoAnchor}
+use Rattle.tk_token.specs.declared.Code.TheVariants.{NoGlyph, TextCommand, Math, Coordinate, NoNode, PathSyntax}
+use Rattle.tk_token.specs.declared.Code.TheVariants.{UnknownCommand, EndMismatch, NoPicture, Font, TooLong, Unbuilt}
 use Rattle.tk_token.specs.Places.{line_of, column_of}
 
 -- the name of a fault

@@ -1,6 +1,7 @@
 -- What each status of the program means. `command_of` (Words) gives `render FILE` a budget of
 -- 10,000,000 units.
-use Rattle.std.specs.Prelude.{◌≡◌, ◌≢◌, ◌⊎◌, ℕ, ◌+◌, ◌<◌, ◌≤◌, List, [], length, take, drop, Option, Some, None, IfSome, Ok, Err, unwrap_or}
+use Rattle.std.specs.Prelude.{◌≡◌, ◌≢◌, ◌⊎◌, ℕ, ◌+◌, ◌<◌, ◌≤◌, List, [], length, take, drop, Option, Some, None, IfSome}
+use Rattle.std.specs.Prelude.{Ok, Err, unwrap_or}
 use Rattle.tk_token.specs.declared.Fault.{Fault}
 use Rattle.tk_token.specs.Answers.{Answer}
 use Rattle.tk_item.specs.declared.Drawing.{Drawing}
@@ -11,7 +12,8 @@ use Rattle.tk_svg.specs.Document.{IsDocument}
 use Rattle.tk_svgwrite.specs.Plain.{document_text}
 use Rattle.tk_picture.specs.Outcome.{IsOutcome}
 use Rattle.tikzsvg.specs.Words.{Command, Render}
-use Rattle.tikzsvg.specs.Lines.{fault_line, too_long_line, read_fault_line, usage_line, write_fault_line, out_of_memory_line}
+use Rattle.tikzsvg.specs.Lines.{fault_line, too_long_line, read_fault_line, usage_line, write_fault_line}
+use Rattle.tikzsvg.specs.Lines.{out_of_memory_line}
 
 -- the most bytes of a source: 16 MiB
 abbrev pub most_bytes : ℕ

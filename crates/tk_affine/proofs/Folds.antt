@@ -6,7 +6,9 @@ use Rattle.tk_affine.specs.declared.Step.{Step}
 use Rattle.tk_affine.specs.Steps.{◌>>=◌, with_step, with_steps, then_step, then_steps, unmoved, matrix_of}
 
 -- the same behind one step, by what holds of the others
-steps_behind_a_matrix : (made : Result Matrix AffFault) (steps more : List Step) → ((n : Matrix) → with_steps n (steps ++ more) ≡ then_steps (with_steps n steps) more) → (made >>= λ n. with_steps n (steps ++ more)) ≡ then_steps (made >>= λ n. with_steps n steps) more
+steps_behind_a_matrix : (made : Result Matrix AffFault) (steps more : List Step)
+    → ((n : Matrix) → with_steps n (steps ++ more) ≡ then_steps (with_steps n steps) more)
+    → (made >>= λ n. with_steps n (steps ++ more)) ≡ then_steps (made >>= λ n. with_steps n steps) more
 steps_behind_a_matrix (Ok m) steps more h = h m
 steps_behind_a_matrix (Err e) steps more h = refl
 

@@ -1,5 +1,6 @@
 -- Matrices that have an inverse, and what is found by it.
-use Rattle.std.proofs.Common.{◌≡◌, ◌≢◌, ℕ, ℤ, pos, negsuc, ◌*ℤ◌, int_div, unsigned_abs, false, eqb, refl, sym, ap, ◌∙◌, arith, Result, SFits, to_z, of_z}
+use Rattle.std.proofs.Common.{◌≡◌, ◌≢◌, ℕ, ℤ, pos, negsuc, ◌*ℤ◌, int_div, unsigned_abs, false, eqb, refl, sym, ap, ◌∙◌, arith, Result, SFits, to_z}
+use Rattle.std.proofs.Common.{of_z}
 use Rattle.std.specs.Int.{w64, w128}
 use Rattle.std.proofs.lemmas.Bool.Decides.{nat_tests}
 use Rattle.std.proofs.lemmas.Int.{to_z-of_z}
@@ -16,13 +17,15 @@ some_bits (pos n) ne e = ne e
 some_bits (negsuc n) ne e = absurd (omega arith)
 
 -- where the determinant isn't 0, what is found stands
-pub found_by_inverse : (m : Matrix) (found : Result Point AffFault) (whole : ℤ) → whole ≡ determinant m → of_z w64 whole ≢ 0 → found ≡ by_inverse m found
+pub found_by_inverse : (m : Matrix) (found : Result Point AffFault) (whole : ℤ) → whole ≡ determinant m → of_z w64 whole ≢ 0
+    → found ≡ by_inverse m found
 found_by_inverse m found whole e ne =
     let some : unsigned_abs (determinant m) ≢ 0 = rw e at (some_bits whole ne) in
     sym (rw (not_zero (unsigned_abs (determinant m)) some) refl)
 
 -- a share of numbers that were passed on in 64 bits, passed on in 128
-pub share_is : (r n d r' n' d' s : ℤ) → SFits w128 s → to_z w64 (of_z w64 r) ≡ r' → to_z w64 (of_z w64 n) ≡ n' → to_z w64 (of_z w64 d) ≡ d' → s ≡ int_div (to_z w64 (of_z w64 r) *ℤ to_z w64 (of_z w64 n)) (to_z w64 (of_z w64 d)) → to_z w128 (of_z w128 s) ≡ int_div (r' *ℤ n') d'
+pub share_is : (r n d r' n' d' s : ℤ) → SFits w128 s → to_z w64 (of_z w64 r) ≡ r' → to_z w64 (of_z w64 n) ≡ n' → to_z w64 (of_z w64 d) ≡ d'
+    → s ≡ int_div (to_z w64 (of_z w64 r) *ℤ to_z w64 (of_z w64 n)) (to_z w64 (of_z w64 d)) → to_z w128 (of_z w128 s) ≡ int_div (r' *ℤ n') d'
 share_is r n d r' n' d' s f er en ed e =
     to_z-of_z w128 s f
     ∙ e

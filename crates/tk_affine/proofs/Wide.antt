@@ -1,5 +1,6 @@
 -- Products, sums and quotients that do not wrap.
-use Rattle.std.proofs.Common.{◌≡◌, ℕ, ℤ, pos, negsuc, ◌+ℤ◌, ◌-ℤ◌, ◌*ℤ◌, int_div, unsigned_abs, ◌+◌, ◌*◌, ◌^◌, ◌<◌, ◌≤◌, ap, ◌∙◌, arith, SFits, to_z, of_z}
+use Rattle.std.proofs.Common.{◌≡◌, ℕ, ℤ, pos, negsuc, ◌+ℤ◌, ◌-ℤ◌, ◌*ℤ◌, int_div, unsigned_abs, ◌+◌, ◌*◌, ◌^◌, ◌<◌, ◌≤◌, ap, ◌∙◌, arith, SFits, to_z}
+use Rattle.std.proofs.Common.{of_z}
 use Rattle.std.specs.Int.{w64, w128}
 use Rattle.std.proofs.Math.Nat.{mul-le-mul_left, mul-le-mul_right}
 use Rattle.tk_affine.specs.Images.{point_at}
@@ -24,18 +25,21 @@ quotient_bound (negsuc a) (pos b) = grind arith
 quotient_bound (negsuc a) (negsuc b) = grind arith
 
 -- a product of two numbers that fit, and that fits
-pub wrapped_product : (a b : ℤ) (m n : ℕ) → unsigned_abs a ≤ m → unsigned_abs b ≤ n → m < 2 ^ 63 → n < 2 ^ 63 → m * n < 2 ^ 63 → to_z w64 (of_z w64 (to_z w64 (of_z w64 a) *ℤ to_z w64 (of_z w64 b))) ≡ a *ℤ b
+pub wrapped_product : (a b : ℤ) (m n : ℕ) → unsigned_abs a ≤ m → unsigned_abs b ≤ n → m < 2 ^ 63 → n < 2 ^ 63 → m * n < 2 ^ 63
+    → to_z w64 (of_z w64 (to_z w64 (of_z w64 a) *ℤ to_z w64 (of_z w64 b))) ≡ a *ℤ b
 wrapped_product a b m n la lb lm ln lmn =
     ap (λ z. to_z w64 (of_z w64 (z *ℤ to_z w64 (of_z w64 b)))) (to_z-of_z w64 a (fits_signed_from_abs w64 a (omega arith)))
     ∙ ap (λ z. to_z w64 (of_z w64 (a *ℤ z))) (to_z-of_z w64 b (fits_signed_from_abs w64 b (omega arith)))
     ∙ to_z-of_z w64 (a *ℤ b) (let small = product_bound a b m n la lb in fits_signed_from_abs w64 (a *ℤ b) (omega (arith, small)))
 
 -- the same in 128 bits, of numbers that fit 64
-pub wide_product : (a b : ℤ) → unsigned_abs a ≤ 1073741823 → unsigned_abs b ≤ 4611686009837453316 → to_z w128 (of_z w128 (to_z w128 (of_z w128 a) *ℤ to_z w128 (of_z w128 b))) ≡ a *ℤ b
+pub wide_product : (a b : ℤ) → unsigned_abs a ≤ 1073741823 → unsigned_abs b ≤ 4611686009837453316
+    → to_z w128 (of_z w128 (to_z w128 (of_z w128 a) *ℤ to_z w128 (of_z w128 b))) ≡ a *ℤ b
 wide_product a b la lb =
     ap (λ z. to_z w128 (of_z w128 (z *ℤ to_z w128 (of_z w128 b)))) (to_z-of_z w128 a (fits_signed_from_abs w128 a (omega arith)))
     ∙ ap (λ z. to_z w128 (of_z w128 (a *ℤ z))) (to_z-of_z w128 b (fits_signed_from_abs w128 b (omega arith)))
-    ∙ to_z-of_z w128 (a *ℤ b) (let small = product_bound a b 1073741823 4611686009837453316 la lb in fits_signed_from_abs w128 (a *ℤ b) (omega (arith, small)))
+    ∙ to_z-of_z w128 (a *ℤ b) (let small = product_bound a b 1073741823 4611686009837453316 la lb in fits_signed_from_abs w128 (a *ℤ b)
+        (omega (arith, small)))
 
 share_small : (a b d : ℤ) → unsigned_abs a ≤ 1073741823 → unsigned_abs b ≤ 4611686009837453316 → unsigned_abs (int_div (a *ℤ b) d) ≤ 2 ^ 92
 share_small a b d la lb =
@@ -43,13 +47,16 @@ share_small a b d la lb =
     omega (arith, small, quotient_bound (a *ℤ b) d)
 
 -- what is computed of r*n/d, and its bound
-pub wide_share : (a b d : ℤ) → unsigned_abs a ≤ 1073741823 → unsigned_abs b ≤ 4611686009837453316 → unsigned_abs d ≤ 2 ^ 63 → to_z w128 (of_z w128 (int_div (to_z w128 (of_z w128 (to_z w128 (of_z w128 a) *ℤ to_z w128 (of_z w128 b)))) (to_z w128 (of_z w128 d)))) ≡ int_div (a *ℤ b) d
+pub wide_share : (a b d : ℤ) → unsigned_abs a ≤ 1073741823 → unsigned_abs b ≤ 4611686009837453316 → unsigned_abs d ≤ 2 ^ 63
+    → to_z w128 (of_z w128 (int_div (to_z w128 (of_z w128 (to_z w128 (of_z w128 a) *ℤ to_z w128 (of_z w128 b)))) (to_z w128 (of_z w128 d))))
+        ≡ int_div (a *ℤ b) d
 wide_share a b d la lb ld =
     ap (λ z. to_z w128 (of_z w128 (int_div z (to_z w128 (of_z w128 d))))) (wide_product a b la lb)
     ∙ ap (λ z. to_z w128 (of_z w128 (int_div (a *ℤ b) z))) (to_z-of_z w128 d (fits_signed_from_abs w128 d (omega arith)))
     ∙ to_z-of_z w128 (int_div (a *ℤ b) d) (fits_signed_from_abs w128 (int_div (a *ℤ b) d) (omega (arith, share_small a b d la lb)))
 
-pub share_within : (a b d r : ℤ) → unsigned_abs a ≤ 1073741823 → unsigned_abs b ≤ 4611686009837453316 → r ≡ int_div (a *ℤ b) d → unsigned_abs r ≤ 2 ^ 92
+pub share_within : (a b d r : ℤ) → unsigned_abs a ≤ 1073741823 → unsigned_abs b ≤ 4611686009837453316 → r ≡ int_div (a *ℤ b) d
+    → unsigned_abs r ≤ 2 ^ 92
 share_within a b d r la lb e = rw e (share_small a b d la lb)
 
 pub abs_fits : (z : ℤ) → SFits w64 z → unsigned_abs z ≤ 2 ^ 63
@@ -57,7 +64,8 @@ abs_fits (pos n) f = omega (arith, f.sfits)
 abs_fits (negsuc n) f = omega (arith, f.sfits)
 
 -- a sum in 64 bits, taken over into 128
-pub moved_on : (q s x : ℤ) → unsigned_abs q ≤ 35184372088832 → unsigned_abs s ≤ 1073741823 → x ≡ to_z w64 (of_z w64 (to_z w64 (of_z w64 q) +ℤ to_z w64 (of_z w64 s))) → to_z w128 (of_z w128 x) ≡ q +ℤ s
+pub moved_on : (q s x : ℤ) → unsigned_abs q ≤ 35184372088832 → unsigned_abs s ≤ 1073741823
+    → x ≡ to_z w64 (of_z w64 (to_z w64 (of_z w64 q) +ℤ to_z w64 (of_z w64 s))) → to_z w128 (of_z w128 x) ≡ q +ℤ s
 moved_on q s x lq ls e =
     let bound = sum_bound q s in
     let sum : to_z w64 (of_z w64 (to_z w64 (of_z w64 q) +ℤ to_z w64 (of_z w64 s))) ≡ q +ℤ s = omega (arith, ints) in

@@ -10,8 +10,10 @@ ghost use Rattle.tk_affine.specs.Steps as steps;
 
 /// Steps behind others go on from the matrix of those, and a step behind a list is taken last.
 pub fn steps_go_on()
-    ensures more { (m : AMatrix) (list more : List AStep) → steps.with_steps m (list ++ more) ≡ steps.then_steps (steps.with_steps m list) more }
-    ensures last { (list : List AStep) (step : AStep) → steps.matrix_of (list ++ (step ∷ [])) ≡ steps.then_step (steps.matrix_of list) step }
+    ensures more { (m : AMatrix) (list more : List AStep) → steps.with_steps m (list ++ more)
+        ≡ steps.then_steps (steps.with_steps m list) more }
+    ensures last { (list : List AStep) (step : AStep) → steps.matrix_of (list ++ (step ∷ []))
+        ≡ steps.then_step (steps.matrix_of list) step }
 {}
 
 /// What moves nothing changes nothing before or behind another matrix.
@@ -26,5 +28,6 @@ pub fn unmoved_points_stay()
     ensures image { (p : APoint) → images.IsPoint p → images.image steps.unmoved p ≡ Ok p }
     ensures vector { (p : APoint) → images.IsPoint p → images.vector_image steps.unmoved p ≡ Ok p }
     ensures inverse { (p : APoint) → images.IsPoint p → inverses.inverse_image steps.unmoved p ≡ Ok p }
-    ensures corner { (p q : APoint) → images.IsPoint p → images.IsPoint q → inverses.corner_of steps.unmoved p q ≡ Ok (record { x = q.x; y = p.y }) }
+    ensures corner { (p q : APoint) → images.IsPoint p → images.IsPoint q → inverses.corner_of steps.unmoved p q
+        ≡ Ok (record { x = q.x; y = p.y }) }
 {}

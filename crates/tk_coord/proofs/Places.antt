@@ -1,5 +1,6 @@
 -- Where the faults of coordinates stand: what holds of the place of the `(`, and of the places of all tokens, holds of theirs.
-use Rattle.std.proofs.Common.{ℕ, ◌-◌, Bool, true, false, List, length, take, drop, Option, Some, None, is_some, Result, Ok, Err, IfErr, IfSome, sym, subst}
+use Rattle.std.proofs.Common.{ℕ, ◌-◌, Bool, true, false, List, length, take, drop, Option, Some, None, is_some, Result, Ok, Err, IfErr, IfSome, sym}
+use Rattle.std.proofs.Common.{subst}
 use Rattle.std.specs.Prelude.{if◌then◌else◌}
 use Rattle.std.proofs.lemmas.List.{take-append-drop}
 use Rattle.std.specs.List.{AllByRecursion, prefix_len, suffix_len}
@@ -42,7 +43,8 @@ module _ (P : ℕ → Type 0) where
   -- ---- texts
 
   both_within : (n : ℕ) (ts : List Tok) → Within P ts → Within P (take n ts) × Within P (drop n ts)
-  both_within n ts h = let Q : Tok → Type 0 = λ t. P t.at in all_split Q (take n ts) (drop n ts) (subst (AllByRecursion Q) (sym (take-append-drop n ts)) h)
+  both_within n ts h =
+      let Q : Tok → Type 0 = λ t. P t.at in all_split Q (take n ts) (drop n ts) (subst (AllByRecursion Q) (sym (take-append-drop n ts)) h)
 
   before_within : (ts : List Tok) → Within P ts → Within P (before_spaces ts)
   unfolding before_spaces
@@ -67,7 +69,8 @@ module _ (P : ℕ → Type 0) where
         fine_then (vector_of look.x look.y at numbers) _ (vector_at look.x look.y at numbers P here) (λ v. placed_fine (image matrix v))
 
     -- by an evaluation whose faults stand so
-    module _ (ev : Evaluation) (font : FontUnits) (look : Look) (matrix : Matrix) (ev_fine : (ts : List Tok) → Within P ts → Fine P (ev font at ts)) where
+    module _ (ev : Evaluation) (font : FontUnits) (look : Look) (matrix : Matrix) (ev_fine : (ts : List Tok) → Within P ts
+        → Fine P (ev font at ts)) where
       paired_fine : (text : List Tok) → Within P text → Fine P (paired ev font at text)
       paired_fine text h = paired_by_at ev font at text P here ev_fine h
 
@@ -77,7 +80,8 @@ module _ (P : ℕ → Type 0) where
 
       lone_fine : (text : List Tok) → Within P text → Fine P (lone_point ev font look matrix at (trimmed text))
       lone_fine text h =
-          fine_then (paired ev font at (trimmed text)) _ (paired_fine (trimmed text) (trimmed_within text h)) (λ numbers. by_fine (trimmed text) numbers)
+          fine_then (paired ev font at (trimmed text)) _ (paired_fine (trimmed text) (trimmed_within text h))
+              (λ numbers. by_fine (trimmed text) numbers)
 
       sign_fine : (point : List Tok → Answer Point)
           → ((ts : List Tok) → Within P ts → Fine P (point ts))

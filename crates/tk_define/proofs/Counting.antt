@@ -52,25 +52,30 @@ module _ (count : ℕ) (list : Unread) (answer : Answer (Read ℕ)) (told : answ
 
   -- no token is left
   pub fails_next : (e : Fault) → next_token MacroSyntax list ≡ Err e → answer ≡ Err e
-  fails_next e h = next_turn ∙ then_fault (next_token MacroSyntax list) (λ next. by_kind count (8 - count) list (is_param next.value.kind) next.list) e h
+  fails_next e h =
+      next_turn ∙ then_fault (next_token MacroSyntax list) (λ next. by_kind count (8 - count) list (is_param next.value.kind) next.list) e h
 
   module _ (tok : Tok) (behind : Unread) (taken : next_token MacroSyntax list ≡ Ok (read tok behind)) where
     chosen : (b : Bool) → is_param tok.kind ≡ b → answer ≡ by_kind count (8 - count) list b behind
     chosen b is =
-        next_turn ∙ then_is (next_token MacroSyntax list) (λ next. by_kind count (8 - count) list (is_param next.value.kind) next.list) (read tok behind) taken
+        next_turn ∙ then_is (next_token MacroSyntax list) (λ next. by_kind count (8 - count) list (is_param next.value.kind) next.list)
+            (read tok behind) taken
         ∙ ap (λ (b : Bool). by_kind count (8 - count) list b behind) is
 
     module _ (param : tok.kind ≡ Param) where
       -- its digit isn't there
       pub fails_digit : (e : Fault) → after_token MacroSyntax (is_char (digit (count + 1))) behind ≡ Err e → answer ≡ Err e
-      fails_digit e h = chosen true (ap is_param param) ∙ then_fault (after_token MacroSyntax (is_char (digit (count + 1))) behind) (λ rest. parameters (suc count) (8 - count) rest) e h
+      fails_digit e h = chosen true (ap is_param param) ∙ then_fault (after_token MacroSyntax (is_char (digit (count + 1))) behind)
+          (λ rest. parameters (suc count) (8 - count) rest) e h
 
       -- one more parameter
-      pub goes : (rest : Unread) → after_token MacroSyntax (is_char (digit (count + 1))) behind ≡ Ok rest → answer ≡ parameters (count + 1) (9 - (count + 1)) rest
+      pub goes : (rest : Unread) → after_token MacroSyntax (is_char (digit (count + 1))) behind ≡ Ok rest
+          → answer ≡ parameters (count + 1) (9 - (count + 1)) rest
       goes rest is =
           let one : suc count ≡ count + 1 = omega arith in
           let fewer : 8 - count ≡ 9 - (count + 1) = omega arith in
-          chosen true (ap is_param param) ∙ then_is (after_token MacroSyntax (is_char (digit (count + 1))) behind) (λ rest. parameters (suc count) (8 - count) rest) rest is
+          chosen true (ap is_param param) ∙ then_is (after_token MacroSyntax (is_char (digit (count + 1))) behind) (λ rest. parameters (suc count)
+              (8 - count) rest) rest is
           ∙ ap (λ (n : ℕ). parameters n (8 - count) rest) one ∙ ap (λ (n : ℕ). parameters (count + 1) n rest) fewer
 
     opened : (b : Bool) → is_open tok.kind ≡ b → after_token MacroSyntax is_open list ≡ (if b then Ok behind else fault MacroSyntax tok.at)
@@ -86,10 +91,12 @@ module _ (count : ℕ) (list : Unread) (answer : Answer (Read ℕ)) (told : answ
     -- a token that doesn't fit
     pub misfits : (tok.kind ≡ Param → ⊥) → (tok.kind ≡ Open → ⊥) → answer ≡ fault MacroSyntax tok.at
     misfits not_param not_open =
-        chosen false (other_kinds_are_neither tok.kind not_param not_open).0 ∙ ap (λ (m : Answer Unread). m >>= λ inside. Ok (read count inside)) (opened false (other_kinds_are_neither tok.kind not_param not_open).1)
+        chosen false (other_kinds_are_neither tok.kind not_param not_open).0 ∙ ap (λ (m : Answer Unread). m >>= λ inside. Ok (read count inside))
+            (opened false (other_kinds_are_neither tok.kind not_param not_open).1)
 
 -- nine parameters: the `{` of the body has to follow
-pub at_nine : (count : ℕ) (list : Unread) (answer : Answer (Read ℕ)) → answer ≡ parameters count (9 - count) list → 9 ≤ count → count ≤ 9 → answer ≡ (after_token MacroSyntax is_open list >>= λ inside. Ok (read 9 inside))
+pub at_nine : (count : ℕ) (list : Unread) (answer : Answer (Read ℕ)) → answer ≡ parameters count (9 - count) list → 9 ≤ count → count ≤ 9
+    → answer ≡ (after_token MacroSyntax is_open list >>= λ inside. Ok (read 9 inside))
 unfolding parameters
 at_nine count list answer told most least =
     let nine : count ≡ 9 = omega arith in
@@ -98,11 +105,16 @@ at_nine count list answer told most least =
 -- ---- the number of arguments in brackets
 
 -- the list behind the `{`, or the want of it, decides once the number and the `]` were read
-pub parameters_counted : (list count_at behind_count bracket_at behind : Unread) (count : ℕ) (answer : Answer Unread) → count_at ≡ past_spaces list → token_value MacroSyntax digit_of count_at ≡ Ok (read count behind_count) → bracket_at ≡ past_spaces behind_count → after_token MacroSyntax (is_char right_bracket) bracket_at ≡ Ok behind → after_token MacroSyntax is_open (past_spaces behind) ≡ answer → bracketed_count list ≡ (answer >>= λ inside. Ok (read count inside))
+pub parameters_counted : (list count_at behind_count bracket_at behind : Unread) (count : ℕ) (answer : Answer Unread) → count_at ≡ past_spaces list
+    → token_value MacroSyntax digit_of count_at ≡ Ok (read count behind_count) → bracket_at ≡ past_spaces behind_count
+    → after_token MacroSyntax (is_char right_bracket) bracket_at ≡ Ok behind → after_token MacroSyntax is_open (past_spaces behind) ≡ answer
+    → bracketed_count list ≡ (answer >>= λ inside. Ok (read count inside))
 unfolding bracketed_count
 parameters_counted list count_at behind_count bracket_at behind count answer e known f closed is =
-    ap (λ (l : Unread). token_value MacroSyntax digit_of l >>= of_count) (sym e) ∙ then_is (token_value MacroSyntax digit_of count_at) of_count (read count behind_count) known
-    ∙ ap (λ (l : Unread). after_token MacroSyntax (is_char right_bracket) l >>= of_bracket count) (sym f) ∙ then_is (after_token MacroSyntax (is_char right_bracket) bracket_at) (of_bracket count) behind closed
+    ap (λ (l : Unread). token_value MacroSyntax digit_of l >>= of_count) (sym e) ∙ then_is (token_value MacroSyntax digit_of count_at) of_count
+        (read count behind_count) known
+    ∙ ap (λ (l : Unread). after_token MacroSyntax (is_char right_bracket) l >>= of_bracket count) (sym f)
+        ∙ then_is (after_token MacroSyntax (is_char right_bracket) bracket_at) (of_bracket count) behind closed
     ∙ ap (λ (m : Answer Unread). m >>= λ inside. Ok (read count inside)) is
   where
     of_bracket : ℕ → Unread → Answer (Read ℕ)

@@ -16,8 +16,8 @@ use tk_token::{Code, Refusal};
 
 /// Takes a definition from behind its command, whose faults are `MacroSyntax` at the first token that doesn't fit, and
 /// at the end of the list where it runs out before: `\def\h#2{}` is refused at its `2`. The body of an `\edef` is
-/// expanded with the macros of the store, and each call is paid for; its faults there are `MacroArg` and `Budget` at the
-/// word of a call.
+/// expanded with the macros of the store, and each call is paid for; its faults there are `MacroArg` and `Budget` at
+/// the word of a call.
 pub fn read_definition(
     alloc: Global,
     command: Command,

@@ -33,7 +33,8 @@ module _ (budget : ℕ) (macros : Macros) (s : Stream) where
   -- nothing is left
   pub next_ends : s.list.rest ≡ [] → next budget macros s ≡ Ok (taken None s)
   unfolding next
-  next_ends none = then_is (front budget macros s) (λ a. Ok (first_taken a a.list.rest)) s (front_ends budget macros s none) ∙ ap (λ (ts : List Tok). (let r : Answer Next = Ok (first_taken s ts) in r)) none
+  next_ends none = then_is (front budget macros s) (λ a. Ok (first_taken a a.list.rest)) s (front_ends budget macros s none)
+      ∙ ap (λ (ts : List Tok). (let r : Answer Next = Ok (first_taken s ts) in r)) none
 
   -- a token is in front; the list behind it ends at the same place
   module _ (t : Tok) (list : Unread) (is : s.list.rest ≡ t ∷ list.rest) (end : list.end ≡ s.list.end) where
@@ -52,22 +53,26 @@ module _ (budget : ℕ) (macros : Macros) (s : Stream) where
     module _ (called : Macro) (calls : called_by macros t.kind ≡ Some called) where
       front_calls : front budget macros s ≡ (replaced budget called t.at (stream s.units list) >>= front budget macros)
       front_calls =
-          front_is budget macros s ∙ ap (front_list budget macros (front budget macros) s) is ∙ ap (front_token budget macros (front budget macros) s t list.rest) calls
+          front_is budget macros s ∙ ap (front_list budget macros (front budget macros) s) is
+              ∙ ap (front_token budget macros (front budget macros) s t list.rest) calls
           ∙ ap (λ (r : Stream). replaced budget called t.at r >>= front budget macros) behind
 
       pub next_fails : (e : Refusal) → Fails e (replaced budget called t.at (stream s.units list)) → Fails e (next budget macros s)
       unfolding next
       next_fails e h =
-          fails_then e (front budget macros s) _ (fails_as e _ _ front_calls (fails_then e (replaced budget called t.at (stream s.units list)) (front budget macros) h))
+          fails_then e (front budget macros s) _ (fails_as e _ _ front_calls (fails_then e (replaced budget called t.at (stream s.units list))
+              (front budget macros) h))
 
       module _ (r : Stream) (known : replaced budget called t.at (stream s.units list) ≡ Ok r) where
         pub next_goes : next budget macros s ≡ next budget macros r
         unfolding next
-        next_goes = ap (λ (m : Answer Stream). m >>= λ a. Ok (first_taken a a.list.rest)) (front_calls ∙ then_is (replaced budget called t.at (stream s.units list)) (front budget macros) r known)
+        next_goes = ap (λ (m : Answer Stream). m >>= λ a. Ok (first_taken a a.list.rest)) (front_calls
+            ∙ then_is (replaced budget called t.at (stream s.units list)) (front budget macros) r known)
 
         pub call_spends : (s.units < r.units) × (work budget r < work budget s)
         call_spends =
-            let p = known_of (Spends budget (stream s.units list)) (replaced budget called t.at (stream s.units list)) r known (replaced_spends budget called t.at (stream s.units list)) in
+            let p = known_of (Spends budget (stream s.units list)) (replaced budget called t.at (stream s.units list)) r known
+                    (replaced_spends budget called t.at (stream s.units list)) in
             (p.units, (let a = p.work_falls in omega (arith, ap length is)))
 
 -- ---- a full expansion
@@ -87,11 +92,14 @@ module _ (budget : ℕ) (macros : Macros) where
   full_from None s = Ok s
   full_from (Some t) s = full budget macros s >>= λ more. Ok (with_rest more (t ∷ more.list.rest))
 
-  list_by_next : (s : Stream) (ts : List Tok) → full_list budget macros (full budget macros) s ts ≡ full_from (first_taken s ts).token (first_taken s ts).stream
+  list_by_next : (s : Stream) (ts : List Tok)
+      → full_list budget macros (full budget macros) s ts ≡ full_from (first_taken s ts).token (first_taken s ts).stream
   list_by_next s [] = refl
   list_by_next s (t ∷ ts) = refl
 
-  by_next : (m : Answer Stream) → (m >>= λ a. full_list budget macros (full budget macros) a a.list.rest) ≡ ((m >>= λ a. let n : Answer Next = Ok (first_taken a a.list.rest) in n) >>= λ n. full_from n.token n.stream)
+  by_next : (m : Answer Stream)
+      → (m >>= λ a. full_list budget macros (full budget macros) a a.list.rest)
+          ≡ ((m >>= λ a. let n : Answer Next = Ok (first_taken a a.list.rest) in n) >>= λ n. full_from n.token n.stream)
   by_next (Ok a) = list_by_next a a.list.rest
   by_next (Err e) = refl
 
@@ -102,7 +110,8 @@ module _ (budget : ℕ) (macros : Macros) where
   -- A full expansion so far: the answer is that of what is left, with the tokens before it that were taken.
   module _ (now : Stream) (out : List Tok) (answer : Answer Stream) (told : answer ≡ with_kept out (full budget macros now)) where
     -- one token is taken
-    pub full_takes : (t : Tok) (r : Stream) (new : List Tok) → next budget macros now ≡ Ok (taken (Some t) r) → new ≡ out ++ t ∷ [] → answer ≡ with_kept new (full budget macros r)
+    pub full_takes : (t : Tok) (r : Stream) (new : List Tok) → next budget macros now ≡ Ok (taken (Some t) r) → new ≡ out ++ t ∷ []
+        → answer ≡ with_kept new (full budget macros r)
     full_takes t r new is pushed =
         told ∙ ap (with_kept out) (full_by_next now ∙ then_is (next budget macros now) (λ n. full_from n.token n.stream) (taken (Some t) r) is)
         ∙ joined (full budget macros r) ∙ ap (λ (o : List Tok). with_kept o (full budget macros r)) (sym pushed)
@@ -120,4 +129,5 @@ module _ (budget : ℕ) (macros : Macros) where
 
     pub full_fails : (e : Refusal) → Fails e (next budget macros now) → Fails e answer
     full_fails e h =
-        fails_as e answer _ told (fails_then e (full budget macros now) _ (fails_as e _ _ (full_by_next now) (fails_then e (next budget macros now) _ h)))
+        fails_as e answer _ told (fails_then e (full budget macros now) _ (fails_as e _ _ (full_by_next now)
+            (fails_then e (next budget macros now) _ h)))

@@ -33,13 +33,18 @@ module _ (P : ℕ → Type 0) where
   module _ (budget : ℕ) (macros : Macros) (bodies : BodiesAt P macros) where
     pub next_at : (s : Stream) → StreamAt P s → Stands P NextAt (next budget macros s)
     unfolding next
-    next_at s h = then_stands P (StreamAt P) NextAt (front budget macros s) _ (front_at P budget macros bodies s h) (λ m k. first_at m m.list.rest k k)
+    next_at s h =
+        then_stands P (StreamAt P) NextAt (front budget macros s) _ (front_at P budget macros bodies s h) (λ m k. first_at m m.list.rest k k)
 
-    solid_at : (n : Next) → NextAt n → (b : Bool) → (b ≡ true → Stands P NextAt (next_solid budget macros n.stream)) → Stands P NextAt (let r : Answer Next = if b then next_solid budget macros n.stream else Ok n in r)
+    solid_at : (n : Next) → NextAt n → (b : Bool) → (b ≡ true → Stands P NextAt (next_solid budget macros n.stream))
+        → Stands P NextAt (let r : Answer Next = if b then next_solid budget macros n.stream else Ok n in r)
     solid_at n h true k = k refl
     solid_at n h false k = h
 
     pub next_solid_at : (s : Stream) → StreamAt P s → Stands P NextAt (next_solid budget macros s)
-    next_solid_at s = by_work P budget macros bodies (λ s. StreamAt P s → Stands P NextAt (next_solid budget macros s)) (λ s h all. subst (Stands P NextAt) (sym (solid_is budget macros s)) (
-        then_stands P (λ (n : Next). NextAt n × Takes budget s n) NextAt (next budget macros s) _ (also P NextAt (Takes budget s) (next budget macros s) (next_at s all) (next_takes budget macros s)) (λ n k.
-        solid_at n k.0 (is_there is_space n.token) (λ b. h n.stream (let a = k.1.work_falls in omega (arith, one_there is_space n.token b)) k.0.1)))) (suc (work budget s)) s (omega arith)
+    next_solid_at s = by_work P budget macros bodies (λ s. StreamAt P s → Stands P NextAt (next_solid budget macros s))
+        (λ s h all. subst (Stands P NextAt) (sym (solid_is budget macros s)) (
+        then_stands P (λ (n : Next). NextAt n × Takes budget s n) NextAt (next budget macros s) _ (also P NextAt (Takes budget s)
+            (next budget macros s) (next_at s all) (next_takes budget macros s)) (λ n k.
+        solid_at n k.0 (is_there is_space n.token) (λ b. h n.stream (let a = k.1.work_falls in omega (arith, one_there is_space n.token b)) k.0.1))))
+            (suc (work budget s)) s (omega arith)

@@ -1,5 +1,6 @@
 -- Where tokens and faults of an expansion stand: at places of the list and of the bodies.
-use Rattle.std.specs.Prelude.{◌≡◌, ℕ, zero, suc, ◌+◌, ◌-◌, ◌<◌, Bool, true, false, nat_lt, if◌then◌else◌, List, [], ◌∷◌, ◌++◌, length, drop, slice_get, unwrap_or, Option, Some, None, Ok, Err, IfSome, IfOk, MatchResult}
+use Rattle.std.specs.Prelude.{◌≡◌, ℕ, zero, suc, ◌+◌, ◌-◌, ◌<◌, Bool, true, false, nat_lt, if◌then◌else◌, List, [], ◌∷◌, ◌++◌, length, drop}
+use Rattle.std.specs.Prelude.{slice_get, unwrap_or, Option, Some, None, Ok, Err, IfSome, IfOk, MatchResult}
 use Rattle.std.specs.FinMap as map
 use Rattle.std.specs.List.{AllByRecursion, prefix_len}
 use Rattle.std.proofs.Common.{refl, sym, ap, subst, arith}
@@ -26,7 +27,8 @@ module _ (P : ℕ → Type 0) where
   abbrev pub Stands : {A : Type 0} → (A → Type 0) → Answer A → Type 0
   Stands Q answer = MatchResult answer Q (λ f. P f.at)
 
-  pub then_stands : {A B : Type 0} (Q : A → Type 0) (R : B → Type 0) (m : Answer A) (f : A → Answer B) → Stands Q m → ((x : A) → Q x → Stands R (f x)) → Stands R (m >>= f)
+  pub then_stands : {A B : Type 0} (Q : A → Type 0) (R : B → Type 0) (m : Answer A) (f : A → Answer B) → Stands Q m → ((x : A) → Q x → Stands R (f x))
+      → Stands R (m >>= f)
   then_stands Q R (Ok x) f h k = k x h
   then_stands Q R (Err e) f h k = h
 
@@ -94,14 +96,17 @@ module _ (P : ℕ → Type 0) where
   put_at texts Param t h p = (p, tt)
   put_at texts Space t h p = (p, tt)
 
-  pub with_arguments_at : (texts : List (List Tok)) (body : List Tok) → AllByRecursion StandAt texts → StandAt body → StandAt (with_arguments texts body)
+  pub with_arguments_at : (texts : List (List Tok)) (body : List Tok) → AllByRecursion StandAt texts → StandAt body
+      → StandAt (with_arguments texts body)
   with_arguments_at texts [] h k = tt
-  with_arguments_at texts (t ∷ ts) h k = joined_at (put_in texts t.kind t) (with_arguments texts ts) (put_at texts t.kind t h k.0) (with_arguments_at texts ts h k.1)
+  with_arguments_at texts (t ∷ ts) h k =
+      joined_at (put_in texts t.kind t) (with_arguments texts ts) (put_at texts t.kind t h k.0) (with_arguments_at texts ts h k.1)
 
   pub text_at : (called : Macro) (at : ℕ) (ts : List Tok) → P at → StandAt called.body → StandAt ts → Stands CutAt (call_text called at ts)
   unfolding call_text
   text_at called at ts p b h =
-      then_stands ArgumentsAt CutAt (arguments_of at called.args ts) _ (arguments_at at called.args ts p h) (λ a k. (with_arguments_at a.texts called.body k.0 b, k.1))
+      then_stands ArgumentsAt CutAt (arguments_of at called.args ts) _ (arguments_at at called.args ts p h)
+          (λ a k. (with_arguments_at a.texts called.body k.0 b, k.1))
 
   paid_at : (budget units cost at : ℕ) → P at → Stands (λ _. Unit {0}) (pay budget units cost at)
   paid_at budget units cost at p = go (nat_lt budget (units + cost))
@@ -113,11 +118,13 @@ module _ (P : ℕ → Type 0) where
   abbrev pub StreamAt : Stream → Type 0
   StreamAt s = StandAt s.list.rest
 
-  pub replaced_at : (budget : ℕ) (called : Macro) (at : ℕ) (s : Stream) → P at → StandAt called.body → StreamAt s → Stands StreamAt (replaced budget called at s)
+  pub replaced_at : (budget : ℕ) (called : Macro) (at : ℕ) (s : Stream) → P at → StandAt called.body → StreamAt s
+      → Stands StreamAt (replaced budget called at s)
   unfolding replaced
   replaced_at budget called at s p b h =
       then_stands CutAt StreamAt (call_text called at s.list.rest) _ (text_at called at s.list.rest p b h) (λ c k.
-      then_stands (λ _. Unit {0}) StreamAt (pay budget s.units (cost_of c.front) at) _ (paid_at budget s.units (cost_of c.front) at p) (λ now m. joined_at c.front c.rest k.0 k.1))
+      then_stands (λ _. Unit {0}) StreamAt (pay budget s.units (cost_of c.front) at) _ (paid_at budget s.units (cost_of c.front) at p)
+          (λ now m. joined_at c.front c.rest k.0 k.1))
 
   -- each body has its tokens at such places
   abbrev pub BodiesAt : Macros → Type 0
@@ -135,28 +142,42 @@ module _ (P : ℕ → Type 0) where
     body_at Space called is = absurd cc
 
     -- what holds where it holds of all that has less work left
-    pub by_work : (Q : Stream → Type 0) → ((s : Stream) → ((r : Stream) → work budget r < work budget s → Q r) → Q s) → (n : ℕ) (s : Stream) → work budget s < n → Q s
+    pub by_work : (Q : Stream → Type 0) → ((s : Stream) → ((r : Stream) → work budget r < work budget s → Q r) → Q s) → (n : ℕ) (s : Stream)
+        → work budget s < n → Q s
     by_work Q step zero s lt = absurd (omega arith)
     by_work Q step (suc n) s lt = step s (λ r less. by_work Q step n r (omega arith))
 
-    token_at : (rec : Stream → Answer Stream) (s : Stream) (t : Tok) (ts : List Tok) → s.list.rest ≡ t ∷ ts → (called : Option Macro) → called_by macros t.kind ≡ called → ((r : Stream) → work budget r < work budget s → StreamAt r → Stands StreamAt (rec r)) → StreamAt s → StandAt (t ∷ ts) → Stands StreamAt (front_token budget macros rec s t ts called)
+    token_at : (rec : Stream → Answer Stream) (s : Stream) (t : Tok) (ts : List Tok) → s.list.rest ≡ t ∷ ts → (called : Option Macro)
+        → called_by macros t.kind ≡ called → ((r : Stream) → work budget r < work budget s → StreamAt r → Stands StreamAt (rec r)) → StreamAt s
+        → StandAt (t ∷ ts) → Stands StreamAt (front_token budget macros rec s t ts called)
     token_at rec s t ts e None is h all both = all
     token_at rec s t ts e (Some called) is h all both =
-        then_stands (λ (r : Stream). StreamAt r × Spends budget (with_rest s ts) r) StreamAt (replaced budget called t.at (with_rest s ts)) _ (also StreamAt (Spends budget (with_rest s ts)) (replaced budget called t.at (with_rest s ts)) (replaced_at budget called t.at (with_rest s ts) both.0 (body_at t.kind called is) both.1) (replaced_spends budget called t.at (with_rest s ts))) (λ r k. h r (call_less budget s r t ts e k.1).less k.0)
+        then_stands (λ (r : Stream). StreamAt r × Spends budget (with_rest s ts) r) StreamAt (replaced budget called t.at (with_rest s ts)) _
+            (also StreamAt (Spends budget (with_rest s ts)) (replaced budget called t.at (with_rest s ts)) (replaced_at budget called t.at
+            (with_rest s ts) both.0 (body_at t.kind called is) both.1) (replaced_spends budget called t.at (with_rest s ts)))
+            (λ r k. h r (call_less budget s r t ts e k.1).less k.0)
 
-    list_at : (rec : Stream → Answer Stream) (s : Stream) (ts : List Tok) → s.list.rest ≡ ts → ((r : Stream) → work budget r < work budget s → StreamAt r → Stands StreamAt (rec r)) → StreamAt s → StandAt ts → Stands StreamAt (front_list budget macros rec s ts)
+    list_at : (rec : Stream → Answer Stream) (s : Stream) (ts : List Tok) → s.list.rest ≡ ts
+        → ((r : Stream) → work budget r < work budget s → StreamAt r → Stands StreamAt (rec r)) → StreamAt s → StandAt ts
+        → Stands StreamAt (front_list budget macros rec s ts)
     list_at rec s [] e h all same = all
     list_at rec s (t ∷ ts) e h all same = token_at rec s t ts e (called_by macros t.kind) refl h all same
 
     pub front_at : (s : Stream) → StreamAt s → Stands StreamAt (front budget macros s)
-    front_at s = by_work (λ s. StreamAt s → Stands StreamAt (front budget macros s)) (λ s h all. subst (Stands StreamAt) (sym (front_is budget macros s)) (list_at (front budget macros) s s.list.rest refl h all all)) (suc (work budget s)) s (omega arith)
+    front_at s = by_work (λ s. StreamAt s → Stands StreamAt (front budget macros s)) (λ s h all. subst (Stands StreamAt)
+        (sym (front_is budget macros s)) (list_at (front budget macros) s s.list.rest refl h all all)) (suc (work budget s)) s (omega arith)
 
-    rest_at : (s m : Stream) → Falls budget s m → (ts : List Tok) → m.list.rest ≡ ts → ((r : Stream) → work budget r < work budget s → StreamAt r → Stands StreamAt (full budget macros r)) → StreamAt m → StandAt ts → Stands StreamAt (full_list budget macros (full budget macros) m ts)
+    rest_at : (s m : Stream) → Falls budget s m → (ts : List Tok) → m.list.rest ≡ ts
+        → ((r : Stream) → work budget r < work budget s → StreamAt r → Stands StreamAt (full budget macros r)) → StreamAt m → StandAt ts
+        → Stands StreamAt (full_list budget macros (full budget macros) m ts)
     rest_at s m fell [] e h all same = all
     rest_at s m fell (t ∷ ts) e h all same =
-        then_stands StreamAt StreamAt (full budget macros (with_rest m ts)) _ (h (with_rest m ts) (let a = fell.work_falls in omega (arith, ap length e)) same.1) (λ more k. (same.0, k))
+        then_stands StreamAt StreamAt (full budget macros (with_rest m ts)) _
+            (h (with_rest m ts) (let a = fell.work_falls in omega (arith, ap length e)) same.1) (λ more k. (same.0, k))
 
     pub full_at : (s : Stream) → StreamAt s → Stands StreamAt (full budget macros s)
-    full_at s = by_work (λ s. StreamAt s → Stands StreamAt (full budget macros s)) (λ s h all. subst (Stands StreamAt) (sym (full_is budget macros s)) (
-        then_stands (λ (m : Stream). StreamAt m × Falls budget s m) StreamAt (front budget macros s) _ (also StreamAt (Falls budget s) (front budget macros s) (front_at s all) (front_falls budget macros s)) (λ m k.
+    full_at s =
+        by_work (λ s. StreamAt s → Stands StreamAt (full budget macros s)) (λ s h all. subst (Stands StreamAt) (sym (full_is budget macros s)) (
+        then_stands (λ (m : Stream). StreamAt m × Falls budget s m) StreamAt (front budget macros s) _ (also StreamAt (Falls budget s)
+            (front budget macros s) (front_at s all) (front_falls budget macros s)) (λ m k.
         rest_at s m k.1 m.list.rest refl h k.0 k.0))) (suc (work budget s)) s (omega arith)

@@ -1,5 +1,6 @@
 -- Tokens as they are written, as the code takes them.
-use Rattle.std.proofs.Common.{◌≡◌, ℕ, ◌+◌, ◌<◌, ◌≤◌, true, false, List, [], ◌∷◌, ◌++◌, length, arith, length-drop, get_or, drop, Option, Some, None, Ok, Err, refl, ap, sym, ◌∙◌, add-one, drop-cons}
+use Rattle.std.proofs.Common.{◌≡◌, ℕ, ◌+◌, ◌<◌, ◌≤◌, true, false, List, [], ◌∷◌, ◌++◌, length, arith, length-drop, get_or, drop, Option, Some, None}
+use Rattle.std.proofs.Common.{Ok, Err, refl, ap, sym, ◌∙◌, add-one, drop-cons}
 use Rattle.std.specs.Prelude.{slice_get, IfNone}
 use Rattle.std.specs.List.{prefix_len}
 use Rattle.std.specs.Option.{option_to_list}
@@ -41,7 +42,8 @@ pub same_first : (rest : List Tok) (t u : Tok) (ts : List Tok) → slice_get res
 same_first rest t u ts first e = let h : slice_get (u ∷ ts) 0 ≡ Some t = ap (λ (us : List Tok). slice_get us 0) (sym e) ∙ first in cc
 
 -- the token in front is taken, if it is there
-pub first_dropped : (rest : List Tok) (t : Tok) (taken : Option Tok) (ts : List Tok) → slice_get rest 0 ≡ Some t → rest ≡ option_to_list taken ++ ts → IfNone taken (rest ≡ []) → rest ≡ t ∷ ts
+pub first_dropped : (rest : List Tok) (t : Tok) (taken : Option Tok) (ts : List Tok) → slice_get rest 0 ≡ Some t → rest ≡ option_to_list taken ++ ts
+    → IfNone taken (rest ≡ []) → rest ≡ t ∷ ts
 first_dropped rest t None ts first e none =
     let nothing : List Tok = [] in
     absurd (let h : slice_get nothing 0 ≡ Some t = ap (λ (us : List Tok). slice_get us 0) (sym none) ∙ first in cc)
@@ -64,9 +66,11 @@ single_token_is_argument (Arg n) t ts not_open not_close = refl
 single_token_is_argument Space t ts not_open not_close = refl
 
 -- a token that is no brace is an argument
-pub single_argument : (at : ℕ) (rest : List Tok) (t : Tok) (ts : List Tok) → after_spaces rest ≡ t ∷ ts → (t.kind ≡ Open → ⊥) → (t.kind ≡ Close → ⊥) → or_fault (argument_of rest) MacroArg at ≡ Ok (cut (t ∷ []) ts)
+pub single_argument : (at : ℕ) (rest : List Tok) (t : Tok) (ts : List Tok) → after_spaces rest ≡ t ∷ ts → (t.kind ≡ Open → ⊥) → (t.kind ≡ Close → ⊥)
+    → or_fault (argument_of rest) MacroArg at ≡ Ok (cut (t ∷ []) ts)
 single_argument at rest t ts e not_open not_close =
-    ap (λ (us : List Tok). or_fault (argument_in us) MacroArg at) e ∙ ap (λ (o : Option Cut). or_fault o MacroArg at) (single_token_is_argument t.kind t ts not_open not_close)
+    ap (λ (us : List Tok). or_fault (argument_in us) MacroArg at) e ∙ ap (λ (o : Option Cut). or_fault o MacroArg at) (single_token_is_argument t.kind
+        t ts not_open not_close)
 
 -- ---- texts
 
@@ -74,14 +78,17 @@ then_fault : {A B : Type 0} (answer : Answer A) (f : A → Answer B) (e : Fault)
 then_fault answer f e h = ap (λ (x : Answer _). x >>= f) h
 
 module _ (code : Code) (text : List ℕ) (i : ℕ) (list : Unread) where
-  next_char : i < length text → after_text code (drop i text) list ≡ (after_token code (is_char (get_or text i 0)) list >>= after_text code (drop (i + 1) text))
+  next_char : i < length text
+      → after_text code (drop i text) list ≡ (after_token code (is_char (get_or text i 0)) list >>= after_text code (drop (i + 1) text))
   unfolding after_text
   next_char h = rw (add-one, drop-cons text i 0 h) refl
 
-  pub char_met : (more : Unread) → i < length text → after_token code (is_char (get_or text i 0)) list ≡ Ok more → after_text code (drop i text) list ≡ after_text code (drop (i + 1) text) more
+  pub char_met : (more : Unread) → i < length text → after_token code (is_char (get_or text i 0)) list ≡ Ok more
+      → after_text code (drop i text) list ≡ after_text code (drop (i + 1) text) more
   char_met more h e = next_char h ∙ then_is (after_token code (is_char (get_or text i 0)) list) (after_text code (drop (i + 1) text)) more e
 
-  pub char_missed : (e : Fault) → i < length text → after_token code (is_char (get_or text i 0)) list ≡ Err e → after_text code (drop i text) list ≡ Err e
+  pub char_missed : (e : Fault) → i < length text → after_token code (is_char (get_or text i 0)) list ≡ Err e
+      → after_text code (drop i text) list ≡ Err e
   char_missed e h is = next_char h ∙ then_fault (after_token code (is_char (get_or text i 0)) list) (after_text code (drop (i + 1) text)) e is
 
   pub text_met : length text ≤ i → after_text code (drop i text) list ≡ Ok list

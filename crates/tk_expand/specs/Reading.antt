@@ -1,4 +1,5 @@
--- What stands next in a list: as it is written, or once no macro call is in front. Each of these takes the code of its fault.
+-- What stands next in a list: as it is written, or once no macro call is in front. Each of these takes the code of its
+-- fault.
 use Rattle.std.specs.Prelude.{ℕ, Bool, false, if◌then◌else◌, List, [], ◌∷◌, Option, Some, None, Ok}
 use Rattle.tk_token.specs.declared.Code.{Code}
 use Rattle.tk_token.specs.declared.Code.TheVariants.{Budget}

@@ -1,6 +1,7 @@
 //! What stands next once no macro call is in front.
 
-ghost use Rattle.std.specs.Prelude.{◌≡◌, ◌+◌, ◌-◌, ◌<◌, ◌≤◌, [], ◌++◌, length, true, false, IfOk, IfErr, IfNone, OnOk, OnErr};
+ghost use Rattle.std.specs.Prelude.{◌≡◌, ◌+◌, ◌-◌, ◌<◌, ◌≤◌, [], ◌++◌, length, true, false, IfOk, IfErr, IfNone, OnOk};
+ghost use Rattle.std.specs.Prelude.{OnErr};
 ghost use Rattle.std.specs.Option.{option_to_list};
 ghost use Rattle.tk_token.specs.Kinds.{is_char};
 ghost use Rattle.tk_token.specs.Refusals.{Gives};
@@ -33,7 +34,8 @@ impl Input {
         Ok(None)
     }
 
-    /// Asks that a token that was taken is that character. The fault stands at another token, or where the list runs out.
+    /// Asks that a token that was taken is that character. The fault stands at another token, or where the list runs
+    /// out.
     pub fn expect(&self, code: Code, token: Option<Tok>, wanted: char) -> Result<(), Fault>
         ensures met { OnOk result (is_there (is_char wanted) token ≡ true) }
         ensures missed { OnErr result (is_there (is_char wanted) token ≡ false) }

@@ -1,6 +1,7 @@
 //! Macro calls: their arguments, their texts, and what they cost.
 
-ghost use Rattle.std.specs.Prelude.{◌≡◌, ◌+◌, ◌-◌, ◌<◌, ◌≤◌, ◌^◌, ℕ, [], ◌++◌, length, true, Ok, Err, MatchOption, MatchResult, IfOk, IfNone, IsTrue, OnOk, OnErr};
+ghost use Rattle.std.specs.Prelude.{◌≡◌, ◌+◌, ◌-◌, ◌<◌, ◌≤◌, ◌^◌, ℕ, [], ◌++◌, length, true, Ok, Err, MatchOption};
+ghost use Rattle.std.specs.Prelude.{MatchResult, IfOk, IfNone, IsTrue, OnOk, OnErr};
 ghost use Rattle.std.specs.Option.{option_to_list, is_some};
 ghost use Rattle.tk_token.specs.Refusals.{Gives};
 ghost use Rattle.tk_expand.specs.Arguments.{arguments_of, given, with_arguments, put_in};
@@ -57,8 +58,8 @@ impl Input {
         Ok(())
     }
 
-    /// Takes so many arguments that nothing delimits, as `argument` takes each. The fault is `MacroArg` at the place, exactly
-    /// where one is missing.
+    /// Takes so many arguments that nothing delimits, as `argument` takes each. The fault is `MacroArg` at the place,
+    /// exactly where one is missing.
     pub fn arguments(&mut self, count: u8, at: u32) -> Result<Vec<Vec<Tok>>, Refusal>
         ensures gives { Gives (λ texts. given (texts_of texts.items) self.new.rest) result
             (arguments_of at count self.old.rest) }
@@ -72,10 +73,10 @@ impl Input {
     }
 }
 
-/// The text of a body, in which the arguments take their places, once it is paid for: it costs one unit more than it has
-/// tokens, so that `(#1)` costs 5 units with the argument `ab`, and gives `(ab)`. The fault is `Budget` at the place, exactly
-/// where the units would pass the budget. Where no token of the body is the place of an argument, the text shares its
-/// tokens with the body.
+/// The text of a body, in which the arguments take their places, once it is paid for: it costs one unit more than it
+/// has tokens, so that `(#1)` costs 5 units with the argument `ab`, and gives `(ab)`. The fault is `Budget` at the
+/// place, exactly where the units would pass the budget. Where no token of the body is the place of an argument, the
+/// text shares its tokens with the body.
 pub fn paid_text(
     alloc: Global,
     arguments: &[Vec<Tok>],
@@ -192,8 +193,8 @@ fn calls(kind: Kind, store: &Store) -> bool
     }
 }
 
-/// The list with no macro call left: the list itself where nothing in it calls. No fault stands at its end, so that it may
-/// run out anywhere.
+/// The list with no macro call left: the list itself where nothing in it calls. No fault stands at its end, so that it
+/// may run out anywhere.
 pub fn expand_all(
     alloc: Global,
     list: Vec<Tok>,

@@ -1,6 +1,7 @@
 //! Token lists that are being read, from the front on.
 
-ghost use Rattle.std.specs.Prelude.{◌≡◌, ◌+◌, ◌<◌, ◌≤◌, ◌^◌, ◌==◌, ◌&&◌, if◌then◌else◌, [], ◌++◌, length, slice_get, Some, None, IfOk, IfNone, IfSome, OnOk};
+ghost use Rattle.std.specs.Prelude.{◌≡◌, ◌+◌, ◌<◌, ◌≤◌, ◌^◌, ◌==◌, ◌&&◌, if◌then◌else◌, [], ◌++◌, length, slice_get};
+ghost use Rattle.std.specs.Prelude.{Some, None, IfOk, IfNone, IfSome, OnOk};
 ghost use Rattle.std.specs.Bool.{OnFalse, OnTrue};
 ghost use Rattle.std.specs.Option.{option_to_list, option_map};
 ghost use Rattle.tk_token.specs.declared.Code.TheVariants.{MacroArg};
@@ -19,8 +20,8 @@ use std::mem;
 use tk_store::Body;
 use tk_token::{Code, Fault, Kind, Refusal, Tok, depth_after};
 
-/// What is left of a token list, and the place at which it runs out. The list is a stack of lists that share their tokens
-/// with the bodies that they come from; the last one is read first, and none of them is empty.
+/// What is left of a token list, and the place at which it runs out. The list is a stack of lists that share their
+/// tokens with the bodies that they come from; the last one is read first, and none of them is empty.
 #[derive(Drop)]
 pub struct Input {
     alloc: Global,
@@ -146,8 +147,8 @@ impl Input {
         self.spare = memory;
     }
 
-    /// Takes the contents of a group whose `{` was taken, and its `}`. There are none exactly where the list ends before
-    /// that `}`; then nothing is taken.
+    /// Takes the contents of a group whose `{` was taken, and its `}`. There are none exactly where the list ends
+    /// before that `}`; then nothing is taken.
     pub fn group(&mut self) -> Result<Option<Vec<Tok>>, AllocError>
         ensures gives { IfOk result
             (λ found. option_map (λ front. cut front.items self.new.rest) found
@@ -161,8 +162,8 @@ impl Input {
         self.before(Stop::Close)
     }
 
-    /// Takes an argument that nothing delimits: the next token that isn't a Space, or the contents of the next group. The
-    /// fault is `MacroArg` at the place, exactly where the list ends or a `}` stands there.
+    /// Takes an argument that nothing delimits: the next token that isn't a Space, or the contents of the next group.
+    /// The fault is `MacroArg` at the place, exactly where the list ends or a `}` stands there.
     pub fn argument(&mut self, at: u32) -> Result<Vec<Tok>, Refusal>
         ensures gives { Gives (λ text. cut text.items self.new.rest) result
             (or_fault (argument_of self.old.rest) MacroArg at) }
@@ -188,8 +189,8 @@ impl Input {
         }
     }
 
-    /// Takes the tokens before the first stop outside braces, and the stop; where there is none, nothing is taken. A stop
-    /// in the list that is read first is found without a walk through the stack.
+    /// Takes the tokens before the first stop outside braces, and the stop; where there is none, nothing is taken. A
+    /// stop in the list that is read first is found without a walk through the stack.
     fn before(&mut self, stop: Stop) -> Result<Option<Vec<Tok>>, AllocError>
         ensures gives { IfOk result
             (λ found. option_map (λ front. cut front.items self.new.rest) found

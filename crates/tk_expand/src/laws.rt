@@ -7,7 +7,8 @@ ghost use Rattle.tk_token.specs.Answers.{Answer};
 ghost use Rattle.tk_token.specs.Recursion.{by_size};
 ghost use Rattle.tk_store.specs.declared.Macro.{Macro as AMacro};
 ghost use Rattle.tk_store.specs.Levels.{Macros};
-ghost use Rattle.tk_expand.specs.Expand.{Stream, work, front, front_step, full, full_step, IsExpanded, StandsStill, StandWithin};
+ghost use Rattle.tk_expand.specs.Expand.{Stream, work, front, front_step, full, full_step, IsExpanded, StandsStill};
+ghost use Rattle.tk_expand.specs.Expand.{StandWithin};
 ghost use Rattle.tk_expand.specs.Reading.{Next, next_solid, next_solid_step};
 
 /// The front of a list is what one step of its definition says.
@@ -65,7 +66,8 @@ pub fn a_list_without_calls_is_its_own_expansion()
         → full budget macros s ≡ Ok s }
 {}
 
-/// Where all tokens of a list and of the bodies stand within a source, those of its full expansion do, and so does its fault.
+/// Where all tokens of a list and of the bodies stand within a source, those of its full expansion do, and so does its
+/// fault.
 pub fn an_expansion_stands_within_the_source()
     ensures { (len budget : ℕ) (macros : Macros) (s : Stream)
         → ((w : ℕ) (m : AMacro) → map.get macros w ≡ Some m → StandWithin len m.body)

@@ -97,8 +97,8 @@ impl Rest {
         tok
     }
 
-    /// Takes the tokens before the first stop outside braces, and the stop, into memory whose own tokens are gone; where there
-    /// is none, nothing is taken.
+    /// Takes the tokens before the first stop outside braces, and the stop, into memory whose own tokens are gone;
+    /// where there is none, nothing is taken.
     pub(crate) fn take_before(
         &mut self,
         memory: Vec<Tok>,

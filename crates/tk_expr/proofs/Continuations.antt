@@ -13,7 +13,8 @@ use Rattle.tk_expr.specs.declared.machine.Frame.TheVariants.{Inside, Then, Else}
 use Rattle.tk_expr.specs.declared.machine.Mode.{Mode}
 use Rattle.tk_expr.specs.declared.machine.Mode.TheVariants.{Wanted, Ordered, Half, Named, Dot, Number, Measured, After}
 use Rattle.tk_expr.specs.Number.{Decimal, no_digits, with_digit}
-use Rattle.tk_expr.specs.Grammar.{piece, skip, after_decimal, next_unit, after_unit, Postfixes, Powers, Products, Sums, Comparisons, Conjunctions, Disjunctions, Begins}
+use Rattle.tk_expr.specs.Grammar.{piece, skip, after_decimal, next_unit, after_unit, Postfixes, Powers, Products, Sums, Comparisons, Conjunctions}
+use Rattle.tk_expr.specs.Grammar.{Disjunctions, Begins}
 use Rattle.tk_expr.specs.Machine.{Found, State, signed_found, applied, powered, waiting_or_same, choice_found, one_found, two_found, most_found}
 use Rattle.tk_expr.proofs.Readings.{decimal_from, decimal_found, Whole, Asks, Part, Goes, Exponential, Further}
 
@@ -84,16 +85,19 @@ module _ (font : FontUnits) where
   abbrev pub ends_in : List Frame → Found → Behind
   ends_in [] v x ps = (v ≡ x) × (skip ps ≡ [])
   ends_in (Inside b p ∷ fs) v x ps = in_bracket b (after_primary p (ends_in fs v)) x ps
-  ends_in (Then c ∷ fs) v x ps = (n : ℕ) × (qs : List Piece) × Begins Colon n ps qs × Via (Whole font qs) (λ y rs. ends_in fs v (choice_found c x y) rs)
+  ends_in (Then c ∷ fs) v x ps =
+      (n : ℕ) × (qs : List Piece) × Begins Colon n ps qs × Via (Whole font qs) (λ y rs. ends_in fs v (choice_found c x y) rs)
   ends_in (Else c y ∷ fs) v x ps = ends_in fs v (choice_found c y x) ps
 
   -- ---- the modes
 
   abbrev pub in_number : Decimal → Behind → List Piece → Type 0
-  in_number n k ps = (m : Decimal) × (decimal_from ps n ≡ Some m) × k (decimal_found font (next_unit (after_decimal ps)) m) (after_unit (after_decimal ps))
+  in_number n k ps =
+      (m : Decimal) × (decimal_from ps n ≡ Some m) × k (decimal_found font (next_unit (after_decimal ps)) m) (after_unit (after_decimal ps))
 
   abbrev pub in_dot : ℕ → Behind → List Piece → Type 0
-  in_dot place k ps = (d : ℕ) × (at : ℕ) × (qs : List Piece) × (ps ≡ piece (Digit d) at ∷ qs) × (nat_lt d 10 ≡ true) × in_number (with_digit d (no_digits true place)) k qs
+  in_dot place k ps = (d : ℕ) × (at : ℕ) × (qs : List Piece) × (ps ≡ piece (Digit d) at ∷ qs) × (nat_lt d 10 ≡ true)
+      × in_number (with_digit d (no_digits true place)) k qs
 
   abbrev pub in_name : Bracket → Behind → List Piece → Type 0
   in_name b k ps = (at : ℕ) × (qs : List Piece) × Begins Left at ps qs × Via (Whole font qs) (in_bracket b k)

@@ -18,10 +18,15 @@ use Rattle.tk_expr.specs.declared.machine.Mode.{Mode}
 use Rattle.tk_expr.specs.declared.machine.Mode.TheVariants.{Wanted, Ordered, Half, Named, Dot, Number, Measured, After}
 use Rattle.tk_expr.specs.Evaluates.{valued}
 use Rattle.tk_expr.specs.Grammar.{Precedence, Products, Stands}
-use Rattle.tk_expr.specs.Machine.{Found, State, applied, powered, multiplied, added, compared, conjoined, disjoined, closed, choice_found, operand, value_in, finish_behind, finish}
+use Rattle.tk_expr.specs.Machine.{Found, State, applied, powered, multiplied, added, compared, conjoined, disjoined, closed, choice_found, operand}
+use Rattle.tk_expr.specs.Machine.{value_in, finish_behind, finish}
 use Rattle.tk_expr.specs.Number.{plain_value}
-use Rattle.tk_expr.proofs.Readings.{Asks, unasked, asked, group, Part, primary_part, postfix_part, prefixed_part, Goes, stays, on_unit, on_radians, on_power, on_operator, on_comparison, Prefixed, sign_before, no_sign_before, Exponential, exponent_sign_before, bare_exponent, Primary, of_digits, of_point, of_parenthesis, of_pi, of_one, of_two, of_most, Further, no_further, one_further}
-use Rattle.tk_expr.proofs.Continuations.{Behind, Via, after_disjunction, after_conjunction, after_comparison, comparing, after_sum, after_product, after_signed, after_postfix, after_primary, wants, in_bracket, ends_in, in_mode, Completes}
+use Rattle.tk_expr.proofs.Readings.{Asks, unasked, asked, group, Part, primary_part, postfix_part, prefixed_part, Goes, stays, on_unit, on_radians}
+use Rattle.tk_expr.proofs.Readings.{on_power, on_operator, on_comparison, Prefixed, sign_before, no_sign_before, Exponential, exponent_sign_before}
+use Rattle.tk_expr.proofs.Readings.{bare_exponent, Primary, of_digits, of_point, of_parenthesis, of_pi, of_one, of_two, of_most, Further, no_further}
+use Rattle.tk_expr.proofs.Readings.{one_further}
+use Rattle.tk_expr.proofs.Continuations.{Behind, Via, after_disjunction, after_conjunction, after_comparison, comparing, after_sum, after_product}
+use Rattle.tk_expr.proofs.Continuations.{after_signed, after_postfix, after_primary, wants, in_bracket, ends_in, in_mode, Completes}
 use Rattle.tk_expr.proofs.Levels.{to_end}
 use Rattle.tk_expr.proofs.Stepping.{some_not_none, same_some}
 
@@ -119,42 +124,52 @@ module _ (font : FontUnits) where
     pub is : operand font s.mode ≡ Some value
     pub ends : ends_in font s.frames v (disjoined s.pending value) []
 
-  last_in : (m : Mode) (p : Pending) (fs : List Frame) (unit : Bool) (v : Found) → in_mode font m p (ends_in font fs v) [] → Last (record { mode = m; pending = p; frames = fs; unit = unit }) v
+  last_in : (m : Mode) (p : Pending) (fs : List Frame) (unit : Bool) (v : Found) → in_mode font m p (ends_in font fs v) []
+      → Last (record { mode = m; pending = p; frames = fs; unit = unit }) v
   last_in Wanted p fs unit v h = absurd (no_wants p.power p (ends_in font fs v) h)
   last_in Ordered p fs unit v (inl h) = absurd (no_wants p.power p (ends_in font fs v) h)
   last_in Ordered p fs unit v (inr (i, qs, e, h)) = absurd (no_piece e)
   last_in (Half m) p fs unit v (i, qs, e, h) = absurd (no_piece e)
   last_in (Named b) p fs unit v (i, qs, e, h) = absurd (no_piece e)
   last_in (Dot place) p fs unit v (d, i, qs, e, small, h) = absurd (no_piece e)
-  last_in (Number n) p fs unit v (m, e, h) = record { value = plain_value font n; is = refl; ends = settled p (ends_in font fs v) (plain_value font n) (subst (λ m. after_primary font p (ends_in font fs v) (plain_value font m) []) (sym (same_some {a = n} {b = m} refl e)) h) }
+  last_in (Number n) p fs unit v (m, e, h) = record { value = plain_value font n; is = refl; ends = settled p (ends_in font fs v) (plain_value font n)
+      (subst (λ m. after_primary font p (ends_in font fs v) (plain_value font m) []) (sym (same_some {a = n} {b = m} refl e)) h) }
   last_in (Measured n) p fs unit v h = record { value = plain_value font n; is = refl; ends = settled p (ends_in font fs v) (plain_value font n) h }
   last_in (After x) p fs unit v h = record { value = x; is = refl; ends = settled p (ends_in font fs v) x h }
 
   pub last_of : (s : State) (v : Found) → Completes font s [] v → Last s v
   last_of s v h = last_in s.mode s.pending s.frames s.unit v h
 
-  completes_as : (m : Mode) (p : Pending) (fs : List Frame) (v x : Found) → operand font m ≡ Some x → ends_in font fs v (disjoined p x) [] → in_mode font m p (ends_in font fs v) []
+  completes_as : (m : Mode) (p : Pending) (fs : List Frame) (v x : Found) → operand font m ≡ Some x → ends_in font fs v (disjoined p x) []
+      → in_mode font m p (ends_in font fs v) []
   completes_as Wanted p fs v x e h = absurd (some_not_none refl e)
   completes_as Ordered p fs v x e h = absurd (some_not_none refl e)
   completes_as (Half m) p fs v x e h = absurd (some_not_none refl e)
   completes_as (Named b) p fs v x e h = absurd (some_not_none refl e)
   completes_as (Dot place) p fs v x e h = absurd (some_not_none refl e)
-  completes_as (Number n) p fs v x e h = (n, refl, to_end font p (ends_in font fs v) (plain_value font n) [] (subst (λ x. ends_in font fs v (disjoined p x) []) (sym (same_some {a = plain_value font n} {b = x} refl e)) h))
-  completes_as (Measured n) p fs v x e h = to_end font p (ends_in font fs v) (plain_value font n) [] (subst (λ x. ends_in font fs v (disjoined p x) []) (sym (same_some {a = plain_value font n} {b = x} refl e)) h)
-  completes_as (After y) p fs v x e h = to_end font p (ends_in font fs v) y [] (subst (λ x. ends_in font fs v (disjoined p x) []) (sym (same_some {a = y} {b = x} refl e)) h)
+  completes_as (Number n) p fs v x e h =
+      (n, refl, to_end font p (ends_in font fs v) (plain_value font n) [] (subst (λ x. ends_in font fs v (disjoined p x) [])
+      (sym (same_some {a = plain_value font n} {b = x} refl e)) h))
+  completes_as (Measured n) p fs v x e h =
+      to_end font p (ends_in font fs v) (plain_value font n) [] (subst (λ x. ends_in font fs v (disjoined p x) [])
+      (sym (same_some {a = plain_value font n} {b = x} refl e)) h)
+  completes_as (After y) p fs v x e h =
+      to_end font p (ends_in font fs v) y [] (subst (λ x. ends_in font fs v (disjoined p x) []) (sym (same_some {a = y} {b = x} refl e)) h)
 
   -- an answer where pieces run out: the one value, or the fault
   pub data FinishIs (c : Found → Type 0) (unit : Bool) (end : ℕ) : Answer Value → Type 0 where
     finds : (v : Found) → c v → FinishIs c unit end (valued unit v)
     lacks : ((v : Found) → c v → ⊥) → FinishIs c unit end (fault Expression end)
 
-  frames_end : (fs : List Frame) (x : Found) (unit : Bool) (end : ℕ) → FinishIs (λ v. ends_in font fs v x []) unit end (value_in end (closed x fs).frames (closed x fs).value unit)
+  frames_end : (fs : List Frame) (x : Found) (unit : Bool) (end : ℕ)
+      → FinishIs (λ v. ends_in font fs v x []) unit end (value_in end (closed x fs).frames (closed x fs).value unit)
   frames_end [] x unit end = finds x (refl, refl)
   frames_end (Inside b p ∷ fs) x unit end = lacks (λ v h. no_bracket_empty b _ x h)
   frames_end (Then c ∷ fs) x unit end = lacks (λ v (n, qs, b, h). no_piece b)
   frames_end (Else c y ∷ fs) x unit end = frames_end fs (choice_found c y x) unit end
 
-  finish_as : {c d : Found → Type 0} {unit : Bool} {end : ℕ} {r : Answer Value} → ((v : Found) → c v ↔ d v) → FinishIs d unit end r → FinishIs c unit end r
+  finish_as : {c d : Found → Type 0} {unit : Bool} {end : ℕ} {r : Answer Value} → ((v : Found) → c v ↔ d v) → FinishIs d unit end r
+      → FinishIs c unit end r
   finish_as f (finds v h) = finds v ((f v).1 h)
   finish_as f (lacks h) = lacks (λ v x. h v ((f v).0 x))
 
@@ -164,7 +179,8 @@ module _ (font : FontUnits) where
     where
       by : (o : Option Found) → operand font s.mode ≡ o → FinishIs (λ v. Completes font s [] v) s.unit end (finish_behind end o s)
       by None e = lacks (λ v h. some_not_none e (last_of s v h).is)
-      by (Some x) e = finish_as (λ v. (λ h. let l = last_of s v h in subst (λ x. ends_in font s.frames v (disjoined s.pending x) []) (same_some l.is e) l.ends, λ h. completes_as s.mode s.pending s.frames v x e h)) (frames_end s.frames (disjoined s.pending x) s.unit end)
+      by (Some x) e = finish_as (λ v. (λ h. let l = last_of s v h in subst (λ x. ends_in font s.frames v (disjoined s.pending x) [])
+          (same_some l.is e) l.ends, λ h. completes_as s.mode s.pending s.frames v x e h)) (frames_end s.frames (disjoined s.pending x) s.unit end)
 
   -- the value is the only one
   one_end : (fs : List Frame) (v w x : Found) → ends_in font fs v x [] → ends_in font fs w x [] → v ≡ w
@@ -177,4 +193,5 @@ module _ (font : FontUnits) where
   one_value s v w h k =
       let l = last_of s v h in
       let m = last_of s w k in
-      one_end s.frames v w (disjoined s.pending l.value) l.ends (subst (λ x. ends_in font s.frames w (disjoined s.pending x) []) (same_some m.is l.is) m.ends)
+      one_end s.frames v w (disjoined s.pending l.value) l.ends (subst (λ x. ends_in font s.frames w (disjoined s.pending x) [])
+          (same_some m.is l.is) m.ends)

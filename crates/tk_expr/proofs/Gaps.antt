@@ -13,8 +13,12 @@ use Rattle.tk_expr.specs.declared.machine.Frame.{Frame}
 use Rattle.tk_expr.specs.declared.machine.Frame.TheVariants.{Inside, Then, Else}
 use Rattle.tk_expr.specs.Grammar.{skip, Precedence, Products, Stands}
 use Rattle.tk_expr.specs.Machine.{Found, applied, choice_found}
-use Rattle.tk_expr.proofs.Readings.{Asks, unasked, asked, group, Part, primary_part, postfix_part, prefixed_part, Goes, stays, on_unit, on_radians, on_power, on_operator, on_comparison, Prefixed, sign_before, no_sign_before, Exponential, exponent_sign_before, bare_exponent, Primary, of_digits, of_point, of_parenthesis, of_pi, of_one, of_two, of_most, Further, no_further, one_further}
-use Rattle.tk_expr.proofs.Continuations.{Behind, Via, after_disjunction, after_conjunction, after_comparison, comparing, after_sum, after_product, after_signed, after_postfix, after_primary, wants, in_bracket, ends_in}
+use Rattle.tk_expr.proofs.Readings.{Asks, unasked, asked, group, Part, primary_part, postfix_part, prefixed_part, Goes, stays, on_unit, on_radians}
+use Rattle.tk_expr.proofs.Readings.{on_power, on_operator, on_comparison, Prefixed, sign_before, no_sign_before, Exponential, exponent_sign_before}
+use Rattle.tk_expr.proofs.Readings.{bare_exponent, Primary, of_digits, of_point, of_parenthesis, of_pi, of_one, of_two, of_most, Further, no_further}
+use Rattle.tk_expr.proofs.Readings.{one_further}
+use Rattle.tk_expr.proofs.Continuations.{Behind, Via, after_disjunction, after_conjunction, after_comparison, comparing, after_sum, after_product}
+use Rattle.tk_expr.proofs.Continuations.{after_signed, after_postfix, after_primary, wants, in_bracket, ends_in}
 
 -- the two texts are one behind the gaps in front
 abbrev pub Alike : List Piece → List Piece → Type 0
@@ -45,7 +49,8 @@ module _ (font : FontUnits) where
 
   prefixed_alike : {x : Found} {ps qs rs : List Piece} → Alike ps qs → Prefixed font ps x rs → Prefixed font qs x rs
   prefixed_alike e (sign_before b f u) = sign_before (sym e ∙ b) f u
-  prefixed_alike e (no_sign_before (group (postfix_part (group (primary_part a) r)) s)) = no_sign_before (group (postfix_part (group (primary_part (primary_alike e a)) r)) s)
+  prefixed_alike e (no_sign_before (group (postfix_part (group (primary_part a) r)) s)) =
+      no_sign_before (group (postfix_part (group (primary_part (primary_alike e a)) r)) s)
 
   product_alike : {x : Found} {ps qs rs : List Piece} → Alike ps qs → Part font Products ps x rs → Part font Products qs x rs
   product_alike e (prefixed_part u) = prefixed_part (prefixed_alike e u)
@@ -62,13 +67,16 @@ module _ (font : FontUnits) where
   abbrev pub Passes : Behind → Type 0
   Passes k = (x : Found) (ps qs : List Piece) → Alike ps qs → k x ps → k x qs
 
-  goes_alike : {l : Precedence} {x y : Found} {ps qs rs : List Piece} (k : Behind) → Passes k → Alike ps qs → Goes font l x ps y rs → k y rs → Via (Goes font l x qs) k
+  goes_alike : {l : Precedence} {x y : Found} {ps qs rs : List Piece} (k : Behind) → Passes k → Alike ps qs → Goes font l x ps y rs → k y rs
+      → Via (Goes font l x qs) k
   goes_alike {x = x} {ps = ps} {qs = qs} k pass e stays h = record { value = _; rest = _; read = stays; goes = pass x ps qs e h }
   goes_alike k pass e (on_unit b r) h = record { value = _; rest = _; read = on_unit (sym e ∙ b) r; goes = h }
   goes_alike k pass e (on_radians b r) h = record { value = _; rest = _; read = on_radians (sym e ∙ b) r; goes = h }
   goes_alike k pass e (on_power b w r) h = record { value = _; rest = _; read = on_power (sym e ∙ b) w r; goes = h }
-  goes_alike {ps = ps} {qs = qs} k pass e (on_operator {qs = us} o at l c b w r) h = record { value = _; rest = _; read = on_operator o at l c (stands_alike o at ps qs us e b) w r; goes = h }
-  goes_alike {ps = ps} {qs = qs} k pass e (on_comparison {qs = us} o at l b w) h = record { value = _; rest = _; read = on_comparison o at l (stands_alike o at ps qs us e b) w; goes = h }
+  goes_alike {ps = ps} {qs = qs} k pass e (on_operator {qs = us} o at l c b w r) h = record { value = _; rest = _; read = on_operator o at l c
+      (stands_alike o at ps qs us e b) w r; goes = h }
+  goes_alike {ps = ps} {qs = qs} k pass e (on_comparison {qs = us} o at l b w) h = record { value = _; rest = _; read = on_comparison o at l
+      (stands_alike o at ps qs us e b) w; goes = h }
 
   asks_alike : {x y : Found} {ps qs rs : List Piece} (k : Behind) → Passes k → Alike ps qs → Asks font x ps y rs → k y rs → Via (Asks font x qs) k
   asks_alike {x = x} {ps = ps} {qs = qs} k pass e unasked h = record { value = _; rest = _; read = unasked; goes = pass x ps qs e h }

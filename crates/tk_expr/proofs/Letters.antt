@@ -16,7 +16,8 @@ use Rattle.tk_expr.specs.Letters.{is_letter_kind, is_letter_tok, letter_of, lett
 
 -- a letter before tokens joins the letters in front of them
 abbrev Joins : List Tok → Type 0
-Joins ts = (c at : ℕ) → with_letter c at (lumps_of ts) ≡ Letters (c ∷ map letter_of (take (prefix_len is_letter_tok ts) ts)) at ∷ lumps_of (drop (prefix_len is_letter_tok ts) ts)
+Joins ts = (c at : ℕ) → with_letter c at (lumps_of ts) ≡ Letters (c ∷ map letter_of (take (prefix_len is_letter_tok ts) ts)) at
+    ∷ lumps_of (drop (prefix_len is_letter_tok ts) ts)
 
 join_char : (d place : ℕ) (us : List Tok) (b : Bool) → is_letter d ≡ b → Joins us → Joins (record { kind = Char d; at = place } ∷ us)
 join_char d place us true e ih c at = rw (e, one-add) (ap (with_letter c at) (ih d place))
@@ -37,7 +38,9 @@ letters_join [] c at = refl
 letters_join (t ∷ ts) c at = join_kind t.kind t.at ts (letters_join ts) c at
 
 run_of : (kind : Kind) (at : ℕ) (ts : List Tok) → is_letter_kind kind ≡ true
-    → lumps_of (record { kind = kind; at = at } ∷ ts) ≡ Letters (map letter_of (take (prefix_len is_letter_tok (record { kind = kind; at = at } ∷ ts)) (record { kind = kind; at = at } ∷ ts))) at ∷ lumps_of (drop (prefix_len is_letter_tok (record { kind = kind; at = at } ∷ ts)) (record { kind = kind; at = at } ∷ ts))
+    → lumps_of (record { kind = kind; at = at } ∷ ts)
+        ≡ Letters (map letter_of (take (prefix_len is_letter_tok (record { kind = kind; at = at } ∷ ts)) (record { kind = kind; at = at } ∷ ts))) at
+        ∷ lumps_of (drop (prefix_len is_letter_tok (record { kind = kind; at = at } ∷ ts)) (record { kind = kind; at = at } ∷ ts))
 run_of (Char c) at ts e = rw (e, one-add) (letters_join ts c at)
 run_of (Word n) at ts e = absurd (cc)
 run_of (Symbol d) at ts e = absurd (cc)
@@ -48,7 +51,8 @@ run_of (Arg n) at ts e = absurd (cc)
 run_of Space at ts e = absurd (cc)
 
 -- a letter in front makes a piece with the letters behind it
-pub letters_in_front : (list : List Tok) (t : Tok) (ts : List Tok) (n : ℕ) → list ≡ t ∷ ts → is_letter_kind t.kind ≡ true → n ≡ prefix_len is_letter_tok list
+pub letters_in_front : (list : List Tok) (t : Tok) (ts : List Tok) (n : ℕ) → list ≡ t ∷ ts → is_letter_kind t.kind ≡ true
+    → n ≡ prefix_len is_letter_tok list
     → pieces_of list ≡ record { mark = word_mark (map letter_of (take n list)); at = t.at } ∷ pieces_of (drop n list)
 letters_in_front list t ts n is letter count = rw (count, is) (ap (map piece_of) (run_of t.kind t.at ts letter))
 

@@ -38,10 +38,12 @@ unfolding head_of
 order_of_pieces [] [] x y r q e = alike refl (ap (head_of x) e)
 order_of_pieces [] (z ∷ c) x y r q e = before c (ap (λ p. p ∷ c) (sym (ap (head_of x) e)))
 order_of_pieces (z ∷ b) [] x y r q e = behind b (ap (λ p. p ∷ b) (ap (head_of y) e))
-order_of_pieces (z ∷ b) (w ∷ c) x y r q e = order_more z w b c x y (ap (head_of z) e) (order_of_pieces b c x y r q (ap (λ (l : List Piece). drop 1 l) e))
+order_of_pieces (z ∷ b) (w ∷ c) x y r q e =
+    order_more z w b c x y (ap (head_of z) e) (order_of_pieces b c x y r q (ap (λ (l : List Piece). drop 1 l) e))
 
 beginning_of_beginning : (b m : List Piece) → IsBeginning (b ++ m) → IsBeginning b
-beginning_of_beginning b m h = record { rest = m ++ h.rest; tree = h.tree; reads = subst (λ (l : List Piece). IsText l h.tree) (append_assoc b m h.rest) h.reads }
+beginning_of_beginning b m h = record { rest = m ++ h.rest; tree = h.tree; reads = subst (λ (l : List Piece). IsText l h.tree)
+    (append_assoc b m h.rest) h.reads }
 
 shorter_of : (b c m : List Piece) → c ≡ b ++ m → IsBeginning c → IsBeginning b
 shorter_of b c m e h = beginning_of_beginning b m (subst IsBeginning e h)
@@ -78,7 +80,8 @@ module _ (ps : List Piece) where
     where
       by : Order b x c y → ⊥
       by (alike e f) = m.fits_not (subst IsBeginning (sym (ap₂ (λ l z. l ++ z ∷ []) e f)) d.beginning)
-      by (before l e) = m.fits_not (shorter_of (b ++ x ∷ []) (c ++ y ∷ []) (l ++ y ∷ []) (ap (λ k. k ++ y ∷ []) e ∙ append_assoc (b ++ x ∷ []) l (y ∷ [])) d.beginning)
+      by (before l e) = m.fits_not (shorter_of (b ++ x ∷ []) (c ++ y ∷ []) (l ++ y ∷ []) (ap (λ k. k ++ y ∷ []) e
+          ∙ append_assoc (b ++ x ∷ []) l (y ∷ [])) d.beginning)
       by (behind l e) = deep_refutes l d e m.shallow
 
   one_deep : {b c : List Piece} {x y : Piece} → IsTooDeep ps b x → IsTooDeep ps c y → x ≡ y
@@ -92,7 +95,8 @@ module _ (ps : List Piece) where
 -- ---- the name of a call
 
 name_is : (openers : List Opener) (m n : ℕ) (os rs : List Opener) → openers ≡ Call m ∷ os → openers ≡ Call n ∷ rs → m ≡ n
-name_is openers m n os rs e f = ap (λ (l : List Opener). elim l as (λ _. ℕ) [ [] ↦ m | o ∷ _ ↦ elim o as (λ _. ℕ) [ Call i ↦ i | _ ↦ m ] ]) (sym e ∙ f)
+name_is openers m n os rs e f =
+    ap (λ (l : List Opener). elim l as (λ _. ℕ) [ [] ↦ m | o ∷ _ ↦ elim o as (λ _. ℕ) [ Call i ↦ i | _ ↦ m ] ]) (sym e ∙ f)
 
 one_name : (b : List Piece) (m n : ℕ) (x : Mark) → IsMiscount b m x → IsMiscount b n x → m ≡ n
 one_name b m n x (too_many at {openers = os} e h) (too_many k {openers = rs} f g) = name_is (unanswered (open_in b)) m n os rs e f
@@ -122,12 +126,15 @@ module _ (font : FontUnits) (end : ℕ) (ps : List Piece) (all : AllProper ps) w
   one_answer (evaluates {t = t} i s) (ends b r h) = absurd (h t i)
   one_answer (misfit m n) (evaluates {t = t} i s) = absurd (misfit_refutes ps m (text_begins ps t i))
   one_answer (misfit m n) (misfit k l) = fault_at (one_misfit ps m k).1
-  one_answer (misfit {before = b} {x = x} m n) (miscount {before = c} {x = y} {name = i} k l) = let same = one_misfit ps k m in absurd (n i (as_miscount ps c b y x i same l))
+  one_answer (misfit {before = b} {x = x} m n) (miscount {before = c} {x = y} {name = i} k l) =
+      let same = one_misfit ps k m in absurd (n i (as_miscount ps c b y x i same l))
   one_answer (misfit m n) (too_deep d) = absurd (misfit_deep ps m d)
   one_answer (misfit m n) (ends b r h) = absurd (misfit_refutes ps m b)
   one_answer (miscount m n) (evaluates {t = t} i s) = absurd (misfit_refutes ps m (text_begins ps t i))
-  one_answer (miscount {before = b} {x = x} {name = i} m n) (misfit {before = c} {x = y} k l) = let same = one_misfit ps m k in absurd (l i (as_miscount ps b c x y i same n))
-  one_answer (miscount {before = b} {x = x} {name = i} m n) (miscount {before = c} {x = y} {name = j} k l) = let same = one_misfit ps m k in name_at (one_name c i j y.mark (as_miscount ps b c x y i same n) l)
+  one_answer (miscount {before = b} {x = x} {name = i} m n) (misfit {before = c} {x = y} k l) =
+      let same = one_misfit ps m k in absurd (l i (as_miscount ps b c x y i same n))
+  one_answer (miscount {before = b} {x = x} {name = i} m n) (miscount {before = c} {x = y} {name = j} k l) =
+      let same = one_misfit ps m k in name_at (one_name c i j y.mark (as_miscount ps b c x y i same n) l)
   one_answer (miscount m n) (too_deep d) = absurd (misfit_deep ps m d)
   one_answer (miscount m n) (ends b r h) = absurd (misfit_refutes ps m b)
   one_answer (too_deep d) (evaluates i s) = absurd (all_refutes ps d s)
@@ -142,5 +149,6 @@ module _ (font : FontUnits) (end : ℕ) (ps : List Piece) (all : AllProper ps) w
   one_answer (ends b r h) (ends c s k) = refl
 
 -- no tokens have two answers
-pub a_text_has_one_answer : (font : FontUnits) (at : ℕ) (toks : List Tok) (a b : Answer Value) → Evaluates font at toks a → Evaluates font at toks b → a ≡ b
+pub a_text_has_one_answer : (font : FontUnits) (at : ℕ) (toks : List Tok) (a b : Answer Value) → Evaluates font at toks a → Evaluates font at toks b
+    → a ≡ b
 a_text_has_one_answer font at toks a b i j = one_answer font (end_of at toks) (pieces_of toks) (pieces_are_proper toks) i j

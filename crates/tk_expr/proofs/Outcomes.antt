@@ -107,45 +107,63 @@ module _ (font : FontUnits) where
   pub record Kept (fits : Option ℕ → Type 0) (fs : List Frame) (unit : Bool) (m : Mark) (at : ℕ) (t : State) : Type 0 where
     pub valid : Valid t
     pub unit_is : t.unit ≡ is_unit m || unit
-    pub opens : (name : Option ℕ) (os : List Opener) → fits name → Opens fs os → Opens t.frames (open_behind name os m) × NamedAt t.mode (name_behind name m at)
+    pub opens : (name : Option ℕ) (os : List Opener) → fits name → Opens fs os
+        → Opens t.frames (open_behind name os m) × NamedAt t.mode (name_behind name m at)
 
   -- a step that opens nothing too much: the texts that go on are those that go on from the state behind it, or there are none
-  pub data SureIs (c : Ahead) (right comma : ℕ → Ahead) (fits : Option ℕ → Type 0) (fs : List Frame) (unit : Bool) (m : Mark) (at : ℕ) : Answer State → Type 0 where
-    steps : (t : State) → ((ps : List Piece) (v : Found) → c ps v ↔ Completes font t ps v) → Kept fits fs unit m at t → (length fs ≤ 64 → length t.frames ≤ 64) → SureIs c right comma fits fs unit m at (Ok t)
-    refuses : ((ps : List Piece) (v : Found) → c ps v → ⊥) → NoMiscount right comma fs m → SureIs c right comma fits fs unit m at (fault Expression at)
-    miscounts : (name : ℕ) → ((ps : List Piece) (v : Found) → c ps v → ⊥) → Miscounts right comma fs name m → SureIs c right comma fits fs unit m at (fault Expression name)
+  pub data SureIs (c : Ahead) (right comma : ℕ → Ahead) (fits : Option ℕ → Type 0) (fs : List Frame) (unit : Bool) (m : Mark) (at : ℕ) : Answer State
+      → Type 0 where
+    steps : (t : State) → ((ps : List Piece) (v : Found) → c ps v ↔ Completes font t ps v) → Kept fits fs unit m at t
+        → (length fs ≤ 64 → length t.frames ≤ 64) → SureIs c right comma fits fs unit m at (Ok t)
+    refuses : ((ps : List Piece) (v : Found) → c ps v → ⊥) → NoMiscount right comma fs m
+        → SureIs c right comma fits fs unit m at (fault Expression at)
+    miscounts : (name : ℕ) → ((ps : List Piece) (v : Found) → c ps v → ⊥) → Miscounts right comma fs name m
+        → SureIs c right comma fits fs unit m at (fault Expression name)
 
-  pub data StepIs (c : Ahead) (right comma : ℕ → Ahead) (fits : Option ℕ → Type 0) (fs : List Frame) (unit : Bool) (m : Mark) (at : ℕ) : Answer State → Type 0 where
+  pub data StepIs (c : Ahead) (right comma : ℕ → Ahead) (fits : Option ℕ → Type 0) (fs : List Frame) (unit : Bool) (m : Mark) (at : ℕ) : Answer State
+      → Type 0 where
     sure : {r : Answer State} → SureIs c right comma fits fs unit m at r → StepIs c right comma fits fs unit m at r
-    deep : (t : State) → ((ps : List Piece) (v : Found) → c ps v ↔ Completes font t ps v) → Kept fits fs unit m at t → 64 ≤ length fs → length t.frames ≡ suc (length fs) → StepIs c right comma fits fs unit m at (fault TooDeep at)
+    deep : (t : State) → ((ps : List Piece) (v : Found) → c ps v ↔ Completes font t ps v) → Kept fits fs unit m at t → 64 ≤ length fs
+        → length t.frames ≡ suc (length fs) → StepIs c right comma fits fs unit m at (fault TooDeep at)
 
   -- ---- the same of other statements
 
   abbrev pub Same : Ahead → Ahead → Type 0
   Same c d = (ps : List Piece) (v : Found) → c ps v ↔ d ps v
 
-  no_miscount_as : (r c r' c' : ℕ → Ahead) (fs : List Frame) (m : Mark) → ((k : ℕ) → Same (r k) (r' k)) → ((k : ℕ) → Same (c k) (c' k)) → NoMiscount r' c' fs m → NoMiscount r c fs m
+  no_miscount_as : (r c r' c' : ℕ → Ahead) (fs : List Frame) (m : Mark) → ((k : ℕ) → Same (r k) (r' k)) → ((k : ℕ) → Same (c k) (c' k))
+      → NoMiscount r' c' fs m → NoMiscount r c fs m
   no_miscount_as r c r' c' fs Comma f g (inl h) = inl (λ k ps v x. h k ps v ((f k ps v).0 x))
   no_miscount_as r c r' c' fs Comma f g (inr h) = inr h
   no_miscount_as r c r' c' fs Right f g (inl h) = inl (λ k ps v x. h k ps v ((g k ps v).0 x))
   no_miscount_as r c r' c' fs Right f g (inr h) = inr h
   no_miscount_as r c r' c' fs _ f g h = tt
 
-  miscounts_as : (r c r' c' : ℕ → Ahead) (fs : List Frame) (name : ℕ) (m : Mark) → ((k : ℕ) → Same (r k) (r' k)) → ((k : ℕ) → Same (c k) (c' k)) → Miscounts r' c' fs name m → Miscounts r c fs name m
+  miscounts_as : (r c r' c' : ℕ → Ahead) (fs : List Frame) (name : ℕ) (m : Mark) → ((k : ℕ) → Same (r k) (r' k)) → ((k : ℕ) → Same (c k) (c' k))
+      → Miscounts r' c' fs name m → Miscounts r c fs name m
   miscounts_as r c r' c' fs name Comma f g h = (h.0, λ k. let e = h.1 k in (e.0, e.1, (f k e.0 e.1).1 e.2))
   miscounts_as r c r' c' fs name Right f g h = (h.0, λ k. let e = h.1 k in (e.0, e.1, (g k e.0 e.1).1 e.2))
   miscounts_as r c r' c' fs name _ f g h = elim h [ ]
 
-  pub no_miscount : (r c : ℕ → Ahead) (fs : List Frame) (m : Mark) → ((k : ℕ) (ps : List Piece) (v : Found) → r k ps v → ⊥) → ((k : ℕ) (ps : List Piece) (v : Found) → c k ps v → ⊥) → NoMiscount r c fs m
+  pub no_miscount : (r c : ℕ → Ahead) (fs : List Frame) (m : Mark) → ((k : ℕ) (ps : List Piece) (v : Found) → r k ps v → ⊥)
+      → ((k : ℕ) (ps : List Piece) (v : Found) → c k ps v → ⊥) → NoMiscount r c fs m
   no_miscount r c fs Comma f g = inl f
   no_miscount r c fs Right f g = inl g
   no_miscount r c fs _ f g = tt
 
-  pub sure_as : {c d : Ahead} {right comma right' comma' : ℕ → Ahead} {fits : Option ℕ → Type 0} {fs : List Frame} {unit : Bool} {m : Mark} {at : ℕ} {r : Answer State} → Same c d → ((k : ℕ) → Same (right k) (right' k)) → ((k : ℕ) → Same (comma k) (comma' k)) → SureIs d right' comma' fits fs unit m at r → SureIs c right comma fits fs unit m at r
+  pub sure_as : {c d : Ahead} {right comma right' comma' : ℕ → Ahead} {fits : Option ℕ → Type 0} {fs : List Frame} {unit : Bool} {m : Mark} {at : ℕ}
+      {r : Answer State}
+      → Same c d → ((k : ℕ) → Same (right k) (right' k)) → ((k : ℕ) → Same (comma k) (comma' k)) → SureIs d right' comma' fits fs unit m at r
+      → SureIs c right comma fits fs unit m at r
   sure_as e f g (steps t h k l) = steps t (λ ps v. (λ x. (h ps v).0 ((e ps v).0 x), λ x. (e ps v).1 ((h ps v).1 x))) k l
-  sure_as {right = right} {comma = comma} {right' = right'} {comma' = comma'} {fs = fs} {m = m} e f g (refuses h k) = refuses (λ ps v x. h ps v ((e ps v).0 x)) (no_miscount_as right comma right' comma' fs m f g k)
-  sure_as {right = right} {comma = comma} {right' = right'} {comma' = comma'} {fs = fs} {m = m} e f g (miscounts name h k) = miscounts name (λ ps v x. h ps v ((e ps v).0 x)) (miscounts_as right comma right' comma' fs name m f g k)
+  sure_as {right = right} {comma = comma} {right' = right'} {comma' = comma'} {fs = fs} {m = m} e f g (refuses h k) =
+      refuses (λ ps v x. h ps v ((e ps v).0 x)) (no_miscount_as right comma right' comma' fs m f g k)
+  sure_as {right = right} {comma = comma} {right' = right'} {comma' = comma'} {fs = fs} {m = m} e f g (miscounts name h k) =
+      miscounts name (λ ps v x. h ps v ((e ps v).0 x)) (miscounts_as right comma right' comma' fs name m f g k)
 
-  pub step_as : {c d : Ahead} {right comma right' comma' : ℕ → Ahead} {fits : Option ℕ → Type 0} {fs : List Frame} {unit : Bool} {m : Mark} {at : ℕ} {r : Answer State} → Same c d → ((k : ℕ) → Same (right k) (right' k)) → ((k : ℕ) → Same (comma k) (comma' k)) → StepIs d right' comma' fits fs unit m at r → StepIs c right comma fits fs unit m at r
+  pub step_as : {c d : Ahead} {right comma right' comma' : ℕ → Ahead} {fits : Option ℕ → Type 0} {fs : List Frame} {unit : Bool} {m : Mark} {at : ℕ}
+      {r : Answer State}
+      → Same c d → ((k : ℕ) → Same (right k) (right' k)) → ((k : ℕ) → Same (comma k) (comma' k)) → StepIs d right' comma' fits fs unit m at r
+      → StepIs c right comma fits fs unit m at r
   step_as e f g (sure s) = sure (sure_as e f g s)
   step_as e f g (deep t h k l n) = deep t (λ ps v. (λ x. (h ps v).0 ((e ps v).0 x), λ x. (e ps v).1 ((h ps v).1 x))) k l n

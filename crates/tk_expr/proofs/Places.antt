@@ -1,5 +1,6 @@
 -- Where the faults of expressions, pairs and vectors stand: what holds of the places of all tokens holds of theirs.
-use Rattle.std.proofs.Common.{◌≡◌, inl, inr, refl, sym, subst, ℕ, zero, suc, ◌+◌, ◌*◌, Bool, true, false, cond, List, [], ◌∷◌, length, drop, map, Option, Some, None, is_some, unwrap_or, Result, Ok, Err, IfErr, IfSome, ℤ, nat_lt}
+use Rattle.std.proofs.Common.{◌≡◌, inl, inr, refl, sym, subst, ℕ, zero, suc, ◌+◌, ◌*◌, Bool, true, false, cond, List, [], ◌∷◌, length, drop, map}
+use Rattle.std.proofs.Common.{Option, Some, None, is_some, unwrap_or, Result, Ok, Err, IfErr, IfSome, ℤ, nat_lt}
 use Rattle.std.specs.List.{AllByRecursion, prefix_len, list_all}
 use Rattle.tk_num.specs.Number.{scaled, product}
 use Rattle.tk_num.specs.Angle.{sine, cosine}
@@ -21,13 +22,16 @@ use Rattle.tk_expr.specs.declared.Value.{Value}
 use Rattle.tk_expr.specs.declared.ValuePair.{ValuePair}
 use Rattle.tk_expr.specs.declared.ValuePair.TheVariants.{Plane, Polar}
 use Rattle.tk_expr.specs.declared.operators.Operator.{Operator}
-use Rattle.tk_expr.specs.declared.operators.Operator.TheVariants.{Raise, Multiply, Divide, Add, Subtract, Same, Differs, AtMost, AtLeast, Below, Above, Both, Either}
+use Rattle.tk_expr.specs.declared.operators.Operator.TheVariants.{Raise, Multiply, Divide, Add, Subtract, Same, Differs, AtMost, AtLeast, Below}
+use Rattle.tk_expr.specs.declared.operators.Operator.TheVariants.{Above, Both, Either}
 use Rattle.tk_expr.specs.declared.operators.Prefix.{Prefix}
 use Rattle.tk_expr.specs.declared.operators.Prefix.TheVariants.{Negate, Keep, Not}
 use Rattle.tk_expr.specs.declared.operators.Signs.{Signs}
 use Rattle.tk_expr.specs.declared.pieces.Most.{Most}
 use Rattle.tk_expr.specs.declared.pieces.Mark.{Mark}
-use Rattle.tk_expr.specs.declared.pieces.Mark.TheVariants.{Digit, Point as Dots, Measure, Radian, Pi, Single, Double, Several, Plus, Minus, Star, Slash, Caret, Bar, Ampersand, Equals, Bang, Less, Greater, Question, Colon, Comma, Left, Right, Gap}
+use Rattle.tk_expr.specs.declared.pieces.Mark.TheVariants.{Digit, Point as Dots, Measure, Radian, Pi, Single, Double, Several, Plus, Minus, Star}
+use Rattle.tk_expr.specs.declared.pieces.Mark.TheVariants.{Slash, Caret, Bar, Ampersand, Equals, Bang, Less, Greater, Question, Colon, Comma, Left}
+use Rattle.tk_expr.specs.declared.pieces.Mark.TheVariants.{Right, Gap}
 use Rattle.tk_expr.specs.declared.pieces.Piece.{Piece}
 use Rattle.tk_expr.specs.declared.machine.Waiting.{Waiting}
 use Rattle.tk_expr.specs.declared.machine.Pending.{Pending}
@@ -39,7 +43,11 @@ use Rattle.tk_expr.specs.declared.machine.Mode.{Mode}
 use Rattle.tk_expr.specs.declared.machine.Mode.TheVariants.{Wanted, Ordered, Half, Named, Dot, Number, Measured, After}
 use Rattle.tk_expr.specs.Number.{Decimal, no_digits, with_digit, with_whole_digit, with_point, plain_value}
 use Rattle.tk_expr.specs.Values.{placed}
-use Rattle.tk_expr.specs.Machine.{Found, State, signed_found, applied, powered, multiplied, added, compared, conjoined, disjoined, product_waits, sum_waits, comparison_waits, waits, waiting_or_same, Closed, choice_found, closed, closed_behind, wanted_in, with_frame, most_found, bracket_ends, at_right, bracket_goes_on, at_comma, at_colon, to_mode, sign_exponent, sign_operand, begin, ordered, is_half, half, named, operator, comparison, after, dot, measured, number, step_in, step, start, run, operand, value_in, finish_behind, finish}
+use Rattle.tk_expr.specs.Machine.{Found, State, signed_found, applied, powered, multiplied, added, compared, conjoined, disjoined, product_waits}
+use Rattle.tk_expr.specs.Machine.{sum_waits, comparison_waits, waits, waiting_or_same, Closed, choice_found, closed, closed_behind, wanted_in}
+use Rattle.tk_expr.specs.Machine.{with_frame, most_found, bracket_ends, at_right, bracket_goes_on, at_comma, at_colon, to_mode, sign_exponent}
+use Rattle.tk_expr.specs.Machine.{sign_operand, begin, ordered, is_half, half, named, operator, comparison, after, dot, measured, number, step_in}
+use Rattle.tk_expr.specs.Machine.{step, start, run, operand, value_in, finish_behind, finish}
 use Rattle.tk_expr.specs.Pieces.{Lump, Letters, Alone, with_letter, with_token, lumps_of, piece_of, pieces_of}
 use Rattle.tk_expr.specs.Evaluated.{evaluated}
 use Rattle.tk_expr.specs.Evaluates.{Evaluation}
@@ -70,7 +78,8 @@ module _ {A : Type 0} where
   fault_only F (Err f) h = h
 
 module _ {A B : Type 0} where
-  holds_then : (P : A → Type 0) (Q : B → Type 0) (F : Fault → Type 0) (m : Answer A) (f : A → Answer B) → Holds P F m → ((a : A) → P a → Holds Q F (f a)) → Holds Q F (m >>= f)
+  holds_then : (P : A → Type 0) (Q : B → Type 0) (F : Fault → Type 0) (m : Answer A) (f : A → Answer B) → Holds P F m
+      → ((a : A) → P a → Holds Q F (f a)) → Holds Q F (m >>= f)
   holds_then P Q F (Ok a) f h k = k a h
   holds_then P Q F (Err e) f h k = h
 
@@ -174,22 +183,28 @@ module _ (Good : ℕ → Type 0) where
   disjoined_fine p x h k = applied_fine p.disjunction _ h.disjunction (conjoined_fine p x h k)
 
   product_fine : (o : Operator) (at : ℕ) (x : Found) (p : Pending) → Good at → Fine x → PendingFine p → PendingFine (product_waits o at x p)
-  product_fine o at x p e k h = record { power = tt; product = (multiplied_fine p x h k, e); sum = h.sum; comparison = h.comparison; conjunction = h.conjunction; disjunction = h.disjunction }
+  product_fine o at x p e k h = record { power = tt; product = (multiplied_fine p x h k, e); sum = h.sum; comparison = h.comparison;
+      conjunction = h.conjunction; disjunction = h.disjunction }
 
   sum_fine : (o : Operator) (at : ℕ) (x : Found) (p : Pending) → Good at → Fine x → PendingFine p → PendingFine (sum_waits o at x p)
-  sum_fine o at x p e k h = record { power = tt; product = tt; sum = (added_fine p x h k, e); comparison = h.comparison; conjunction = h.conjunction; disjunction = h.disjunction }
+  sum_fine o at x p e k h = record { power = tt; product = tt; sum = (added_fine p x h k, e); comparison = h.comparison; conjunction = h.conjunction;
+      disjunction = h.disjunction }
 
   comparison_fine : (o : Operator) (at : ℕ) (x : Found) (p : Pending) → Good at → Fine x → PendingFine p → PendingFine (comparison_waits o at x p)
-  comparison_fine o at x p e k h = record { power = tt; product = tt; sum = tt; comparison = (compared_fine p x h k, e); conjunction = h.conjunction; disjunction = h.disjunction }
+  comparison_fine o at x p e k h = record { power = tt; product = tt; sum = tt; comparison = (compared_fine p x h k, e); conjunction = h.conjunction;
+      disjunction = h.disjunction }
 
   waits_fine : (o : Operator) (at : ℕ) (x : Found) (p : Pending) → Good at → Fine x → PendingFine p → PendingFine (waits o at x p)
-  waits_fine Raise at x p e k h = record { power = (powered_fine p x h k, e); product = h.product; sum = h.sum; comparison = h.comparison; conjunction = h.conjunction; disjunction = h.disjunction }
+  waits_fine Raise at x p e k h = record { power = (powered_fine p x h k, e); product = h.product; sum = h.sum; comparison = h.comparison;
+      conjunction = h.conjunction; disjunction = h.disjunction }
   waits_fine Multiply at x p e k h = product_fine Multiply at x p e k h
   waits_fine Divide at x p e k h = product_fine Divide at x p e k h
   waits_fine Add at x p e k h = sum_fine Add at x p e k h
   waits_fine Subtract at x p e k h = sum_fine Subtract at x p e k h
-  waits_fine Both at x p e k h = record { power = tt; product = tt; sum = tt; comparison = tt; conjunction = (conjoined_fine p x h k, e); disjunction = h.disjunction }
-  waits_fine Either at x p e k h = record { power = tt; product = tt; sum = tt; comparison = tt; conjunction = tt; disjunction = (disjoined_fine p x h k, e) }
+  waits_fine Both at x p e k h = record { power = tt; product = tt; sum = tt; comparison = tt; conjunction = (conjoined_fine p x h k, e);
+      disjunction = h.disjunction }
+  waits_fine Either at x p e k h = record { power = tt; product = tt; sum = tt; comparison = tt; conjunction = tt;
+      disjunction = (disjoined_fine p x h k, e) }
   waits_fine Same at x p e k h = comparison_fine Same at x p e k h
   waits_fine Differs at x p e k h = comparison_fine Differs at x p e k h
   waits_fine AtMost at x p e k h = comparison_fine AtMost at x p e k h
@@ -220,23 +235,27 @@ module _ (Good : ℕ → Type 0) where
   behind_fine x s k h = closed_fine (disjoined s.pending x) s.frames (disjoined_fine s.pending x h.pending k) h.frames
 
   nothing_fine : (fs : List Frame) (s : State) → FramesFine fs → StateFine (wanted_in fs s)
-  nothing_fine fs s h = record { mode = tt; pending = record { power = tt; product = tt; sum = tt; comparison = tt; conjunction = tt; disjunction = tt }; frames = h }
+  nothing_fine fs s h = record { mode = tt; pending = record { power = tt; product = tt; sum = tt; comparison = tt; conjunction = tt;
+      disjunction = tt }; frames = h }
 
   opened_fine : (at : ℕ) (f : Frame) (s : State) → Good at → FrameFine f → StateFine s → Stays (with_frame at f s)
   opened_fine at f s e k h = holds_if StateFine Early (nat_lt (length s.frames) 64) _ _ (nothing_fine (f ∷ s.frames) s (k, h.frames)) e
 
-  outside_fine : (v : Found) (p : Pending) (fs : List Frame) (s : State) → Fine v → PendingFine p → FramesFine fs → StateFine (record { mode = After v; pending = p; frames = fs; unit = s.unit })
+  outside_fine : (v : Found) (p : Pending) (fs : List Frame) (s : State) → Fine v → PendingFine p → FramesFine fs
+      → StateFine (record { mode = After v; pending = p; frames = fs; unit = s.unit })
   outside_fine v p fs s h k l = record { mode = h; pending = k; frames = l }
 
   most_fine : (f : Most) (x : Option Found) (y : Found) → OptionFine x → Fine y → Fine (most_found f x y)
   most_fine f None y h k = k
   most_fine f (Some x) y h k = fine_then x _ h (λ v. fine_then y _ k (λ w. tt))
 
-  ends_fine : (at : ℕ) (b : Bracket) (v : Found) (p : Pending) (fs : List Frame) (s : State) → Good at → BracketFine b → Fine v → PendingFine p → FramesFine fs → Stays (bracket_ends at b v p fs s)
+  ends_fine : (at : ℕ) (b : Bracket) (v : Found) (p : Pending) (fs : List Frame) (s : State) → Good at → BracketFine b → Fine v → PendingFine p
+      → FramesFine fs → Stays (bracket_ends at b v p fs s)
   ends_fine at Plain v p fs s e k h i j = outside_fine v p fs s h i j
   ends_fine at (Only f name) v p fs s e k h i j = outside_fine _ p fs s (fine_then v _ h (λ _. placed_fine name _ k)) i j
   ends_fine at (First f name) v p fs s e k h i j = k
-  ends_fine at (Second f name x) v p fs s e k h i j = outside_fine _ p fs s (fine_then x _ k.1 (λ _. fine_then v _ h (λ _. placed_fine name _ k.0))) i j
+  ends_fine at (Second f name x) v p fs s e k h i j =
+      outside_fine _ p fs s (fine_then x _ k.1 (λ _. fine_then v _ h (λ _. placed_fine name _ k.0))) i j
   ends_fine at (Each f x) v p fs s e k h i j = outside_fine _ p fs s (most_fine f x v k h) i j
 
   right_fine : (at : ℕ) (v : Found) (fs : List Frame) (s : State) → Good at → Fine v → FramesFine fs → Stays (at_right at v fs s)
@@ -245,7 +264,8 @@ module _ (Good : ℕ → Type 0) where
   right_fine at v (Then c ∷ fs) s e h k = e
   right_fine at v (Else c x ∷ fs) s e h k = e
 
-  goes_on_fine : (at : ℕ) (b : Bracket) (v : Found) (p : Pending) (fs : List Frame) (s : State) → Good at → BracketFine b → Fine v → PendingFine p → FramesFine fs → Stays (bracket_goes_on at b v p fs s)
+  goes_on_fine : (at : ℕ) (b : Bracket) (v : Found) (p : Pending) (fs : List Frame) (s : State) → Good at → BracketFine b → Fine v → PendingFine p
+      → FramesFine fs → Stays (bracket_goes_on at b v p fs s)
   goes_on_fine at Plain v p fs s e k h i j = e
   goes_on_fine at (Only f name) v p fs s e k h i j = k
   goes_on_fine at (First f name) v p fs s e k h i j = nothing_fine (Inside (Second f name v) p ∷ fs) s (((k, h), i), j)
@@ -274,11 +294,14 @@ module _ (Good : ℕ → Type 0) where
 
   exponent_fine : (sign : Prefix) (at : ℕ) (s : State) → Good at → StateFine s → Stays (sign_exponent sign at s)
   exponent_fine Not at s e h = e
-  exponent_fine Negate at s e h = record { mode = tt; pending = (let p = h.pending in record { power = p.power; product = p.product; sum = p.sum; comparison = p.comparison; conjunction = p.conjunction; disjunction = p.disjunction }); frames = h.frames }
-  exponent_fine Keep at s e h = record { mode = tt; pending = (let p = h.pending in record { power = p.power; product = p.product; sum = p.sum; comparison = p.comparison; conjunction = p.conjunction; disjunction = p.disjunction }); frames = h.frames }
+  exponent_fine Negate at s e h = record { mode = tt; pending = (let p = h.pending in record { power = p.power; product = p.product; sum = p.sum;
+      comparison = p.comparison; conjunction = p.conjunction; disjunction = p.disjunction }); frames = h.frames }
+  exponent_fine Keep at s e h = record { mode = tt; pending = (let p = h.pending in record { power = p.power; product = p.product; sum = p.sum;
+      comparison = p.comparison; conjunction = p.conjunction; disjunction = p.disjunction }); frames = h.frames }
 
   operand_fine : (w : Option Waiting) (sign : Prefix) (at : ℕ) (s : State) → Good at → StateFine s → Stays (sign_operand w sign at s)
-  operand_fine None sign at s e h = record { mode = tt; pending = (let p = h.pending in record { power = p.power; product = p.product; sum = p.sum; comparison = p.comparison; conjunction = p.conjunction; disjunction = p.disjunction }); frames = h.frames }
+  operand_fine None sign at s e h = record { mode = tt; pending = (let p = h.pending in record { power = p.power; product = p.product; sum = p.sum;
+      comparison = p.comparison; conjunction = p.conjunction; disjunction = p.disjunction }); frames = h.frames }
   operand_fine (Some w) sign at s e h = exponent_fine sign at s e h
 
   begin_fine : (m : Mark) (at : ℕ) (s : State) → Good at → StateFine s → Stays (begin m at s)
@@ -296,7 +319,8 @@ module _ (Good : ℕ → Type 0) where
   begin_fine _ at s e h = e
 
   ordered_fine : (m : Mark) (at : ℕ) (s : State) → Good at → StateFine s → Stays (ordered m at s)
-  ordered_fine Equals at s e h = record { mode = tt; pending = (let p = h.pending in record { power = p.power; product = p.product; sum = p.sum; comparison = or_same_fine s.pending.comparison p.comparison; conjunction = p.conjunction; disjunction = p.disjunction }); frames = h.frames }
+  ordered_fine Equals at s e h = record { mode = tt; pending = (let p = h.pending in record { power = p.power; product = p.product; sum = p.sum;
+      comparison = or_same_fine s.pending.comparison p.comparison; conjunction = p.conjunction; disjunction = p.disjunction }); frames = h.frames }
   ordered_fine mark at s e h = begin_fine mark at s e h
 
   half_fine : (w m : Mark) (at : ℕ) (s : State) → Good at → StateFine s → Stays (half w m at s)
@@ -307,10 +331,12 @@ module _ (Good : ℕ → Type 0) where
   named_fine b Gap at s e k h = mode_fine (Named b) s k h
   named_fine b _ at s e k h = e
 
-  operator_fine : (o : Operator) (m : Mode) (at : ℕ) (x : Found) (s : State) → Good at → ModeFine m → Fine x → StateFine s → Stays (operator o m at x s)
+  operator_fine : (o : Operator) (m : Mode) (at : ℕ) (x : Found) (s : State) → Good at → ModeFine m → Fine x → StateFine s
+      → Stays (operator o m at x s)
   operator_fine o m at x s e i k h = same_pending m s (waits o at x s.pending) i (waits_fine o at x s.pending e k h.pending) h
 
-  a_comparison_fine : (o : Operator) (m : Mode) (at : ℕ) (x : Found) (s : State) → Good at → ModeFine m → Fine x → StateFine s → Stays (comparison o m at x s)
+  a_comparison_fine : (o : Operator) (m : Mode) (at : ℕ) (x : Found) (s : State) → Good at → ModeFine m → Fine x → StateFine s
+      → Stays (comparison o m at x s)
   a_comparison_fine o m at x s e i k h = holds_if StateFine Early (is_some s.pending.comparison) _ _ e (operator_fine o m at x s e i k h)
 
   after_fine : (font : FontUnits) (x : Found) (m : Mark) (at : ℕ) (s : State) → Good at → Fine x → StateFine s → Stays (after font x m at s)
@@ -346,7 +372,8 @@ module _ (Good : ℕ → Type 0) where
   dot_fine place (Digit d) at s e k h = mode_fine _ s (digit_fine d (no_digits true place) k) h
   dot_fine place _ at s e k h = e
 
-  measured_fine : (font : FontUnits) (n : Decimal) (m : Mark) (at : ℕ) (s : State) → Good at → Good n.at → StateFine s → Stays (measured font n m at s)
+  measured_fine : (font : FontUnits) (n : Decimal) (m : Mark) (at : ℕ) (s : State) → Good at → Good n.at → StateFine s
+      → Stays (measured font n m at s)
   measured_fine font n (Measure unit) at s e k h = record { mode = placed_fine n.at _ k; pending = h.pending; frames = h.frames }
   measured_fine font n Gap at s e k h = mode_fine (Measured n) s k h
   measured_fine font n mark at s e k h = after_fine font (plain_value font n) mark at s e (placed_fine n.at _ k) h
@@ -417,7 +444,8 @@ module _ (Good : ℕ → Type 0) where
   letter_fine c at (Letters text place ∷ lumps) e h = (e, h.1)
   letter_fine c at (Alone kind place ∷ lumps) e h = (e, h)
 
-  char_fine : (c at : ℕ) (lumps : List Lump) (b : Bool) → Good at → LumpsFine lumps → LumpsFine (cond b (with_letter c at lumps) (Alone (Char c) at ∷ lumps))
+  char_fine : (c at : ℕ) (lumps : List Lump) (b : Bool) → Good at → LumpsFine lumps
+      → LumpsFine (cond b (with_letter c at lumps) (Alone (Char c) at ∷ lumps))
   char_fine c at lumps true e h = letter_fine c at lumps e h
   char_fine c at lumps false e h = (e, h)
 
@@ -440,7 +468,8 @@ module _ (Good : ℕ → Type 0) where
 
   evaluated_fine : (font : FontUnits) (at : ℕ) (ts : List Tok) → Good at → Within ts → Fine (evaluated font at ts)
   unfolding evaluated
-  evaluated_fine font at ts e h = holds_then StateFine (λ _. Unit {0}) Early (run font start (pieces_of ts)) _ (run_fine font start (pieces_of ts) (pieces_fine (lumps_of ts) (lumps_fine ts h)) (nothing_fine [] start tt)) (λ s k. finish_fine font (end_of at ts) s (end_fine at ts e h) k)
+  evaluated_fine font at ts e h = holds_then StateFine (λ _. Unit {0}) Early (run font start (pieces_of ts)) _ (run_fine font start (pieces_of ts)
+      (pieces_fine (lumps_of ts) (lumps_fine ts h)) (nothing_fine [] start tt)) (λ s k. finish_fine font (end_of at ts) s (end_fine at ts e h) k)
 
   -- ---- pairs
 
@@ -471,7 +500,8 @@ module _ (Good : ℕ → Type 0) where
 
   contents_within : (ts : List Tok) → Within ts → AllSome (contents ts)
   contents_within [] h = tt
-  contents_within (t ∷ ts) h = group_if (is_open t.kind) (alone (group_of ts)) (alone_within (group_of ts) (group_keeps (λ (t : Tok). Good t.at) ts h.1))
+  contents_within (t ∷ ts) h =
+      group_if (is_open t.kind) (alone (group_of ts)) (alone_within (group_of ts) (group_keeps (λ (t : Tok). Good t.at) ts h.1))
 
   or_within : (o : Option (List Tok)) (ts : List Tok) → AllSome o → Within ts → Within (unwrap_or o ts)
   or_within None ts h k = k
@@ -521,22 +551,30 @@ module _ (Good : ℕ → Type 0) where
   along_within vector at v e = holds_if (λ _. Unit {0}) Early v.unit _ _ tt (placed_fine at _ e)
 
 -- two numbers of a point, at one place
-two_placed : (Good : ℕ → Type 0) (at : ℕ) (a b : Result ℤ NumFault) → Good at → Fine Good (let r : Answer Point = placed at a >>= λ p. placed at b >>= λ q. Ok (record { x = p; y = q }) in r)
+two_placed : (Good : ℕ → Type 0) (at : ℕ) (a b : Result ℤ NumFault) → Good at
+    → Fine Good (let r : Answer Point = placed at a >>= λ p. placed at b >>= λ q. Ok (record { x = p; y = q }) in r)
 two_placed Good at (Ok a) (Ok b) e = tt
 two_placed Good at (Ok a) (Err f) e = e
 two_placed Good at (Err f) b e = e
 
 -- ---- what holds of the places of a text holds of the place of a fault
 
-pub evaluated_at : (font : FontUnits) (at : ℕ) (ts : List Tok) (Good : ℕ → Type 0) → Good at → Within Good ts → IfErr (evaluated font at ts) (λ (f : Fault). Good f.at)
+pub evaluated_at : (font : FontUnits) (at : ℕ) (ts : List Tok) (Good : ℕ → Type 0) → Good at → Within Good ts
+    → IfErr (evaluated font at ts) (λ (f : Fault). Good f.at)
 evaluated_at font at ts Good e h = only_fault (λ _. Unit {0}) (Early Good) (evaluated font at ts) (evaluated_fine Good font at ts e h)
 
-pub paired_at : (font : FontUnits) (at : ℕ) (ts : List Tok) (Good : ℕ → Type 0) → Good at → Within Good ts → IfErr (paired evaluated font at ts) (λ (f : Fault). Good f.at)
-paired_at font at ts Good e h = only_fault (λ _. Unit {0}) (Early Good) (paired evaluated font at ts) (paired_within Good evaluated font at e (λ ts. evaluated_fine Good font at ts e) ts h)
+pub paired_at : (font : FontUnits) (at : ℕ) (ts : List Tok) (Good : ℕ → Type 0) → Good at → Within Good ts
+    → IfErr (paired evaluated font at ts) (λ (f : Fault). Good f.at)
+paired_at font at ts Good e h = only_fault (λ _. Unit {0}) (Early Good) (paired evaluated font at ts) (paired_within Good evaluated font at e
+    (λ ts. evaluated_fine Good font at ts e) ts h)
 
 -- the same by any evaluation whose faults stand so
-pub paired_by_at : (ev : Evaluation) (font : FontUnits) (at : ℕ) (ts : List Tok) (Good : ℕ → Type 0) → Good at → ((ts : List Tok) → Within Good ts → IfErr (ev font at ts) (λ (f : Fault). Good f.at)) → Within Good ts → IfErr (paired ev font at ts) (λ (f : Fault). Good f.at)
-paired_by_at ev font at ts Good e fine h = only_fault (λ _. Unit {0}) (Early Good) (paired ev font at ts) (paired_within Good ev font at e (λ ts k. from_fault (λ _. Unit {0}) (Early Good) (ev font at ts) (λ _. tt) (fine ts k)) ts h)
+pub paired_by_at : (ev : Evaluation) (font : FontUnits) (at : ℕ) (ts : List Tok) (Good : ℕ → Type 0) → Good at
+    → ((ts : List Tok) → Within Good ts → IfErr (ev font at ts) (λ (f : Fault). Good f.at)) → Within Good ts
+    → IfErr (paired ev font at ts) (λ (f : Fault). Good f.at)
+paired_by_at ev font at ts Good e fine h =
+    only_fault (λ _. Unit {0}) (Early Good) (paired ev font at ts) (paired_within Good ev font at e (λ ts k. from_fault (λ _. Unit {0}) (Early Good)
+    (ev font at ts) (λ _. tt) (fine ts k)) ts h)
 
 pub vector_at : (x y : ℤ) (at : ℕ) (p : ValuePair) (Good : ℕ → Type 0) → Good at → IfErr (vector_of x y at p) (λ (f : Fault). Good f.at)
 unfolding vector_of

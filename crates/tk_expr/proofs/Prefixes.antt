@@ -1,5 +1,6 @@
 -- What stands in front of a list.
-use Rattle.std.proofs.Common.{◌≡◌, ℕ, ◌+◌, ◌≤◌, Bool, true, false, not, cond, ltb, List, [], ◌∷◌, length, take, Option, Some, None, refl, ap, ◌∙◌, arith, one-add}
+use Rattle.std.proofs.Common.{◌≡◌, ℕ, ◌+◌, ◌≤◌, Bool, true, false, not, cond, ltb, List, [], ◌∷◌, length, take, Option, Some, None, refl, ap, ◌∙◌}
+use Rattle.std.proofs.Common.{arith, one-add}
 use Rattle.std.specs.Prelude.{unwrap_or}
 use Rattle.std.specs.List.{prefix_len, position, position_or_len, list_all}
 use Rattle.std.proofs.lemmas.Bool.Decides.{nat_tests}
@@ -11,7 +12,8 @@ not_not false = refl
 
 prefix_not_not : {X : Type 0} (p : X → Bool) (xs : List X) → position_or_len (λ x. not (p x)) xs ≡ prefix_len p xs
 prefix_not_not p [] = refl
-prefix_not_not p (x ∷ xs) = ap (λ (b : Bool). cond b (1 + position_or_len (λ y. not (p y)) xs) 0) (not_not (p x)) ∙ ap (λ (n : ℕ). cond (p x) (1 + n) 0) (prefix_not_not p xs)
+prefix_not_not p (x ∷ xs) =
+    ap (λ (b : Bool). cond b (1 + position_or_len (λ y. not (p y)) xs) 0) (not_not (p x)) ∙ ap (λ (n : ℕ). cond (p x) (1 + n) 0) (prefix_not_not p xs)
 
 first_or_length : (n m : ℕ) → n ≤ m → unwrap_or (cond (ltb n m) (Some n) None) m ≡ n
 first_or_length n m h = by_test (ltb n m) refl
@@ -21,7 +23,8 @@ first_or_length n m h = by_test (ltb n m) refl
     by_test false e = grind (arith, nat_tests)
 
 -- the first place that doesn't pass, or else the length, is how many pass in front
-pub front_len : {X : Type 0} (p : X → Bool) (xs : List X) (first : Option ℕ) → first ≡ position (λ x. not (p x)) xs → unwrap_or first (length xs) ≡ prefix_len p xs
+pub front_len : {X : Type 0} (p : X → Bool) (xs : List X) (first : Option ℕ) → first ≡ position (λ x. not (p x)) xs
+    → unwrap_or first (length xs) ≡ prefix_len p xs
 front_len p xs first is =
     ap (λ (o : Option ℕ). unwrap_or o (length xs)) is
     ∙ first_or_length (position_or_len (λ x. not (p x)) xs) (length xs) (prefix_len-le-length (λ x. not (not (p x))) xs)
@@ -32,6 +35,7 @@ pub front_passes : {X : Type 0} (p : X → Bool) (xs : List X) → list_all p (t
 front_passes p [] = refl
 front_passes p (x ∷ xs) = by_test (p x) refl (front_passes p xs)
   where
-    by_test : (b : Bool) → p x ≡ b → list_all p (take (prefix_len p xs) xs) ≡ true → list_all p (take (cond b (1 + prefix_len p xs) 0) (x ∷ xs)) ≡ true
+    by_test : (b : Bool) → p x ≡ b → list_all p (take (prefix_len p xs) xs) ≡ true
+        → list_all p (take (cond b (1 + prefix_len p xs) 0) (x ∷ xs)) ≡ true
     by_test true e h = rw (one-add, e) h
     by_test false e h = refl

@@ -10,7 +10,8 @@ use Rattle.tk_token.specs.declared.Tok.{Tok}
 use Rattle.tk_expr.specs.declared.pieces.Mark.{Mark}
 use Rattle.tk_expr.specs.declared.pieces.Mark.TheVariants.{Digit}
 use Rattle.tk_expr.specs.declared.pieces.Piece.{Piece}
-use Rattle.tk_expr.specs.Pieces.{Row, rows, digit_zero, mark_in, word_mark, mark_at, signs, char_mark, mark_of, Lump, Letters, Alone, lumps_of, piece_of, pieces_of}
+use Rattle.tk_expr.specs.Pieces.{Row, rows, digit_zero, mark_in, word_mark, mark_at, signs, char_mark, mark_of, Lump, Letters, Alone, lumps_of}
+use Rattle.tk_expr.specs.Pieces.{piece_of, pieces_of}
 use Rattle.tk_expr.proofs.Outcomes.{Proper}
 
 abbrev pub AllProper : List Piece → Type 0
@@ -26,7 +27,11 @@ proper_row (r ∷ table) text h = proper_if (bytes_eq text r.text) r.mark (mark_
 
 proper_word : (text : List ℕ) → Proper (word_mark text)
 unfolding word_mark
-proper_word text = proper_row rows text (tt, (tt, (tt, (tt, (tt, (tt, (tt, (tt, (tt, (tt, (tt, (tt, (tt, (tt, (tt, (tt, (tt, (tt, (tt, (tt, (tt, (tt, (tt, (tt, (tt, (tt, (tt, (tt, tt))))))))))))))))))))))))))))
+proper_word text = proper_row rows text
+    (tt, (tt,
+    (tt, (tt,
+    (tt, (tt,
+    (tt, (tt, (tt, (tt, (tt, (tt, (tt, (tt, (tt, (tt, (tt, (tt, (tt, (tt, (tt, (tt, (tt, (tt, (tt, (tt, (tt, (tt, tt))))))))))))))))))))))))))))
 
 proper_sign : (table : List (ℕ × Mark)) (c : ℕ) → AllByRecursion (λ (r : ℕ × Mark). Proper r.1) table → Proper (mark_at table c)
 proper_sign [] c h = tt

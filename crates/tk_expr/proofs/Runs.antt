@@ -16,7 +16,8 @@
 --    OneAnswer shows that there is no other, and Evaluations that therefore all evaluations are the machine's.
 -- 6. Apart from that: Places follows the places of faults, ShortWay shows that a decimal read without the machine has the
 --    machine's value, and Letters and ProperPieces tie tokens to pieces.
-use Rattle.std.proofs.Common.{◌≡◌, ◌⊎◌, ◌↔◌, inl, inr, ℕ, suc, ◌≤◌, Bool, true, false, ◌||◌, List, [], ◌∷◌, ◌++◌, length, drop, Option, None, refl, sym, ap, ap₂, subst, ◌∙◌, arith, append_assoc, append-nil, zero-le}
+use Rattle.std.proofs.Common.{◌≡◌, ◌⊎◌, ◌↔◌, inl, inr, ℕ, suc, ◌≤◌, Bool, true, false, ◌||◌, List, [], ◌∷◌, ◌++◌, length, drop, Option, None, refl}
+use Rattle.std.proofs.Common.{sym, ap, ap₂, subst, ◌∙◌, arith, append_assoc, append-nil, zero-le}
 use Rattle.tk_token.specs.Answers.{Answer, ◌>>=◌}
 use Rattle.tk_token.specs.declared.Tok.{Tok}
 use Rattle.tk_expr.specs.declared.FontUnits.{FontUnits}
@@ -30,7 +31,8 @@ use Rattle.tk_expr.specs.declared.machine.Frame.{Frame}
 use Rattle.tk_expr.specs.declared.machine.Frame.TheVariants.{Inside, Then, Else}
 use Rattle.tk_expr.specs.Tree.{Tree, value}
 use Rattle.tk_expr.specs.Grammar.{piece, IsText}
-use Rattle.tk_expr.specs.Faults.{IsBeginning, Opener, Parenthesis, Call, Asked, Answered, unanswered, name_behind, open_behind, open_from, open_in, IsShallow, IsMiscount, too_many, too_few}
+use Rattle.tk_expr.specs.Faults.{IsBeginning, Opener, Parenthesis, Call, Asked, Answered, unanswered, name_behind, open_behind, open_from, open_in}
+use Rattle.tk_expr.specs.Faults.{IsShallow, IsMiscount, too_many, too_few}
 use Rattle.tk_token.specs.Places.{end_of}
 use Rattle.tk_expr.specs.Evaluates.{is_unit, has_unit, valued, IsMisfit, IsTooDeep, IsAnswer, evaluates, misfit, miscount, too_deep, ends, Evaluates}
 use Rattle.tk_expr.specs.Evaluated.{evaluated}
@@ -40,7 +42,8 @@ use Rattle.tk_expr.proofs.Closing.{completes}
 use Rattle.tk_expr.proofs.Continuations.{ends_in, in_mode, Completes}
 use Rattle.tk_expr.proofs.Finishing.{FinishIs, finds, lacks, finish_is, one_value}
 use Rattle.tk_expr.proofs.Levels.{fresh_whole}
-use Rattle.tk_expr.proofs.Outcomes.{IsPlain, CalledAt, Called, Opens, NamedAt, NoCall, InCall, Ahead, NoMiscount, Miscounts, Valid, Kept, SureIs, steps, refuses, miscounts, StepIs, sure, deep, Same}
+use Rattle.tk_expr.proofs.Outcomes.{IsPlain, CalledAt, Called, Opens, NamedAt, NoCall, InCall, Ahead, NoMiscount, Miscounts, Valid, Kept, SureIs}
+use Rattle.tk_expr.proofs.Outcomes.{steps, refuses, miscounts, StepIs, sure, deep, Same}
 use Rattle.tk_expr.proofs.ProperPieces.{AllProper, pieces_are_proper}
 use Rattle.tk_expr.proofs.Stepping.{step_is}
 use Rattle.tk_expr.proofs.Trees.{read_expression, tell_whole}
@@ -108,7 +111,8 @@ same_length (f ∷ fs) (_ ∷ os) o = ap suc (same_length fs os o.1)
 -- ---- beginnings
 
 -- a beginning of a text and one more piece is a beginning of the text, or all of it
-beginning_or : (before : List Piece) (p : Piece) (b rest : List Piece) → before ++ p ∷ [] ≡ b ++ rest → ((more : List Piece) × (before ≡ b ++ more)) ⊎ (b ≡ before ++ p ∷ [])
+beginning_or : (before : List Piece) (p : Piece) (b rest : List Piece) → before ++ p ∷ [] ≡ b ++ rest
+    → ((more : List Piece) × (before ≡ b ++ more)) ⊎ (b ≡ before ++ p ∷ [])
 beginning_or before p [] rest e = inl (before, refl)
 beginning_or [] p (q ∷ b) rest e = inr (ap₂ (λ q l. q ∷ l) (sym (head_is e)) (none_left b rest (tail_is e)))
   where
@@ -126,7 +130,8 @@ beginning_or (q ∷ before) p (r ∷ b) rest e = by (beginning_or before p b res
     head_is : q ≡ r
     head_is = ap (λ (l : List Piece). elim l as (λ _. Piece) [ [] ↦ q | x ∷ xs ↦ x ]) e
 
-    by : ((more : List Piece) × (before ≡ b ++ more)) ⊎ (b ≡ before ++ p ∷ []) → ((more : List Piece) × (q ∷ before ≡ r ∷ b ++ more)) ⊎ (r ∷ b ≡ q ∷ before ++ p ∷ [])
+    by : ((more : List Piece) × (before ≡ b ++ more)) ⊎ (b ≡ before ++ p ∷ [])
+        → ((more : List Piece) × (q ∷ before ≡ r ∷ b ++ more)) ⊎ (r ∷ b ≡ q ∷ before ++ p ∷ [])
     by (inl (more, f)) = inl (more, ap₂ (λ q l. q ∷ l) head_is f)
     by (inr f) = inr (ap₂ (λ q l. q ∷ l) (sym head_is) f)
 
@@ -154,7 +159,8 @@ module _ (font : FontUnits) where
   -- ---- texts and values
 
   pub text_in : (ps : List Piece) (t : Tree) → IsText ps t → Completes font start ps (value font t)
-  text_in ps t h = (fresh_whole font (ends_in font [] (value font t)) ps).0 (record { value = value font t; rest = h.left; read = read_expression font h.reads; goes = (refl, h.all) })
+  text_in ps t h = (fresh_whole font (ends_in font [] (value font t)) ps).0 (record { value = value font t; rest = h.left; read = read_expression font
+      h.reads; goes = (refl, h.all) })
 
   -- a text with that value
   pub record Text_of (ps : List Piece) (v : Found) : Type 0 where
@@ -208,7 +214,8 @@ module _ (font : FontUnits) where
   one_more before p ps = append_assoc before (p ∷ []) ps
 
   -- texts that go on behind one more piece
-  same_next : {before : List Piece} {s : State} (r : Reached before s) (p : Piece) (t : State) → Same font (In s p.mark p.at) (Completes font t) → (ps : List Piece) (v : Found) → Completes font start ((before ++ p ∷ []) ++ ps) v ↔ Completes font t ps v
+  same_next : {before : List Piece} {s : State} (r : Reached before s) (p : Piece) (t : State) → Same font (In s p.mark p.at) (Completes font t)
+      → (ps : List Piece) (v : Found) → Completes font start ((before ++ p ∷ []) ++ ps) v ↔ Completes font t ps v
   same_next {before = before} r p t h ps v =
       let a = r.same (p ∷ ps) v in
       let b = h ps v in
@@ -217,10 +224,13 @@ module _ (font : FontUnits) where
   open_next : {before : List Piece} {s : State} (r : Reached before s) (p : Piece) → open_in (before ++ p ∷ []) ≡ open_behind r.name r.openers p.mark
   open_next r p = r.open_is (p ∷ [])
 
-  length_next : {before : List Piece} {s : State} (r : Reached before s) (p : Piece) (t : State) → Kept font (NamedAt s.mode) s.frames s.unit p.mark p.at t → length (open_in (before ++ p ∷ [])) ≡ length t.frames
-  length_next r p t k = ap length (open_next r p) ∙ same_length t.frames (open_behind r.name r.openers p.mark) (k.opens r.name r.openers r.named r.opens).0
+  length_next : {before : List Piece} {s : State} (r : Reached before s) (p : Piece) (t : State)
+      → Kept font (NamedAt s.mode) s.frames s.unit p.mark p.at t → length (open_in (before ++ p ∷ [])) ≡ length t.frames
+  length_next r p t k =
+      ap length (open_next r p) ∙ same_length t.frames (open_behind r.name r.openers p.mark) (k.opens r.name r.openers r.named r.opens).0
 
-  reached_next : {before : List Piece} {s : State} (r : Reached before s) (p : Piece) (t : State) → Same font (In s p.mark p.at) (Completes font t) → Kept font (NamedAt s.mode) s.frames s.unit p.mark p.at t → length t.frames ≤ 64 → Reached (before ++ p ∷ []) t
+  reached_next : {before : List Piece} {s : State} (r : Reached before s) (p : Piece) (t : State) → Same font (In s p.mark p.at) (Completes font t)
+      → Kept font (NamedAt s.mode) s.frames s.unit p.mark p.at t → length t.frames ≤ 64 → Reached (before ++ p ∷ []) t
   reached_next {before = before} {s = s} r p t h k le =
       let o = k.opens r.name r.openers r.named r.opens in
       record {
@@ -242,51 +252,78 @@ module _ (font : FontUnits) where
   beginning_at before ps v h = let t = text_out (before ++ ps) v h in record { rest = ps; tree = t.tree; reads = t.text }
 
   beginning_now : {before : List Piece} {s : State} → Reached before s → IsBeginning before
-  beginning_now {before = before} {s = s} r = let e = completes font s r.valid.half r.valid.tidy in beginning_at before e.0 e.1 ((r.same e.0 e.1).1 e.2)
+  beginning_now {before = before} {s = s} r =
+      let e = completes font s r.valid.half r.valid.tidy in beginning_at before e.0 e.1 ((r.same e.0 e.1).1 e.2)
 
   -- a beginning with one more piece goes on from the state
-  goes_on : {before : List Piece} {s : State} (r : Reached before s) (p : Piece) → IsBeginning (before ++ p ∷ []) → (ps : List Piece) × (v : Found) × Completes font s (p ∷ ps) v
+  goes_on : {before : List Piece} {s : State} (r : Reached before s) (p : Piece) → IsBeginning (before ++ p ∷ [])
+      → (ps : List Piece) × (v : Found) × Completes font s (p ∷ ps) v
   goes_on {before = before} r p b =
       let v = value font b.tree in
-      (b.rest, v, (r.same (p ∷ b.rest) v).0 (subst (λ (l : List Piece). Completes font start l v) (one_more before p b.rest) (text_in ((before ++ p ∷ []) ++ b.rest) b.tree b.reads)))
+      (b.rest, v, (r.same (p ∷ b.rest) v).0 (subst (λ (l : List Piece). Completes font start l v) (one_more before p b.rest)
+          (text_in ((before ++ p ∷ []) ++ b.rest) b.tree b.reads)))
 
-  beginning_next : {before : List Piece} {s : State} (r : Reached before s) (p : Piece) (ps : List Piece) (v : Found) → Completes font s (p ∷ ps) v → IsBeginning (before ++ p ∷ [])
-  beginning_next {before = before} r p ps v h = beginning_at (before ++ p ∷ []) ps v (subst (λ (l : List Piece). Completes font start l v) (sym (one_more before p ps)) ((r.same (p ∷ ps) v).1 h))
+  beginning_next : {before : List Piece} {s : State} (r : Reached before s) (p : Piece) (ps : List Piece) (v : Found) → Completes font s (p ∷ ps) v
+      → IsBeginning (before ++ p ∷ [])
+  beginning_next {before = before} r p ps v h =
+      beginning_at (before ++ p ∷ []) ps v (subst (λ (l : List Piece). Completes font start l v) (sym (one_more before p ps))
+      ((r.same (p ∷ ps) v).1 h))
 
   -- ---- counts of arguments
 
   -- none is there where the other mark doesn't fit, or what is open is no call
-  no_other : {before : List Piece} {s : State} (r : Reached before s) (n : Mark) (at name : ℕ) (os : List Opener) → ((k : ℕ) (ps : List Piece) (v : Found) → In s n k ps v → ⊥) ⊎ NoCall s.frames → unanswered (open_in before) ≡ Call name ∷ os → IsBeginning (before ++ piece n at ∷ []) → ⊥
+  no_other : {before : List Piece} {s : State} (r : Reached before s) (n : Mark) (at name : ℕ) (os : List Opener)
+      → ((k : ℕ) (ps : List Piece) (v : Found) → In s n k ps v → ⊥) ⊎ NoCall s.frames → unanswered (open_in before) ≡ Call name ∷ os
+      → IsBeginning (before ++ piece n at ∷ []) → ⊥
   no_other r n at name os (inl h) e b = let g = goes_on r (piece n at) b in h at g.0 g.1 g.2
   no_other {s = s} r n at name os (inr h) e b = no_call s.frames r.openers os name h r.opens (ap unanswered (sym (open_now r)) ∙ e)
 
-  not_miscount : {before : List Piece} {s : State} {m : Mark} {name : ℕ} (r : Reached before s) → IsMiscount before name m → NoMiscount (In s Right) (In s Comma) s.frames m → ⊥
+  not_miscount : {before : List Piece} {s : State} {m : Mark} {name : ℕ} (r : Reached before s) → IsMiscount before name m
+      → NoMiscount (In s Right) (In s Comma) s.frames m → ⊥
   not_miscount {name = name} r (too_many at {openers = os} e b) h = no_other r Right at name os h e b
   not_miscount {name = name} r (too_few at {openers = os} e b) h = no_other r Comma at name os h e b
 
-  is_miscount : {before : List Piece} {s : State} (r : Reached before s) (m : Mark) (name : ℕ) → Miscounts (In s Right) (In s Comma) s.frames name m → IsMiscount before name m
-  is_miscount {before = before} {s = s} r Comma name (c, h) = let i = in_call s.frames r.openers name c r.opens in let g = h 0 in too_many 0 (ap unanswered (open_now r) ∙ i.1) (beginning_next r (piece Right 0) g.0 g.1 g.2)
-  is_miscount {before = before} {s = s} r Right name (c, h) = let i = in_call s.frames r.openers name c r.opens in let g = h 0 in too_few 0 (ap unanswered (open_now r) ∙ i.1) (beginning_next r (piece Comma 0) g.0 g.1 g.2)
+  is_miscount : {before : List Piece} {s : State} (r : Reached before s) (m : Mark) (name : ℕ) → Miscounts (In s Right) (In s Comma) s.frames name m
+      → IsMiscount before name m
+  is_miscount {before = before} {s = s} r Comma name (c, h) =
+      let i = in_call s.frames r.openers name c r.opens in let g = h 0 in too_many 0 (ap unanswered (open_now r) ∙ i.1)
+      (beginning_next r (piece Right 0) g.0 g.1 g.2)
+  is_miscount {before = before} {s = s} r Right name (c, h) =
+      let i = in_call s.frames r.openers name c r.opens in let g = h 0 in too_few 0 (ap unanswered (open_now r) ∙ i.1)
+      (beginning_next r (piece Comma 0) g.0 g.1 g.2)
   is_miscount r _ name h = elim h [ ]
 
   -- ---- the whole run
 
-  misfit_at : {before : List Piece} {s : State} (r : Reached before s) (p : Piece) (ps : List Piece) → ((ps : List Piece) (v : Found) → In s p.mark p.at ps v → ⊥) → IsMisfit (before ++ p ∷ ps) before p
-  misfit_at r p ps h = record { rest = ps; split = refl; beginning = beginning_now r; shallow = r.shallow; fits_not = λ b. let g = goes_on r p b in h g.0 g.1 g.2 }
+  misfit_at : {before : List Piece} {s : State} (r : Reached before s) (p : Piece) (ps : List Piece)
+      → ((ps : List Piece) (v : Found) → In s p.mark p.at ps v → ⊥) → IsMisfit (before ++ p ∷ ps) before p
+  misfit_at r p ps h = record { rest = ps; split = refl; beginning = beginning_now r; shallow = r.shallow;
+      fits_not = λ b. let g = goes_on r p b in h g.0 g.1 g.2 }
 
-  too_deep_at : {before : List Piece} {s : State} (r : Reached before s) (p : Piece) (ps : List Piece) (t : State) → Same font (In s p.mark p.at) (Completes font t) → Kept font (NamedAt s.mode) s.frames s.unit p.mark p.at t → 64 ≤ length s.frames → length t.frames ≡ suc (length s.frames) → IsTooDeep (before ++ p ∷ ps) before p
+  too_deep_at : {before : List Piece} {s : State} (r : Reached before s) (p : Piece) (ps : List Piece) (t : State)
+      → Same font (In s p.mark p.at) (Completes font t) → Kept font (NamedAt s.mode) s.frames s.unit p.mark p.at t → 64 ≤ length s.frames
+      → length t.frames ≡ suc (length s.frames) → IsTooDeep (before ++ p ∷ ps) before p
   too_deep_at {before = before} {s = s} r p ps t h k many more =
       let e = completes font t k.valid.half k.valid.tidy in
       let few = r.few in
       let long : length (open_in (before ++ p ∷ [])) ≡ length t.frames = length_next r p t k in
-      record { rest = ps; split = refl; beginning = beginning_next r p e.0 e.1 ((h e.0 e.1).1 e.2); shallow = r.shallow; deep = omega (arith, few, many, more, long) }
+      record { rest = ps; split = refl; beginning = beginning_next r p e.0 e.1 ((h e.0 e.1).1 e.2); shallow = r.shallow;
+          deep = omega (arith, few, many, more, long) }
 
-  from_sure : (end : ℕ) {before : List Piece} {s : State} (r : Reached before s) (p : Piece) (ps : List Piece) (m : Answer State) → SureIs font (In s p.mark p.at) (In s Right) (In s Comma) (NamedAt s.mode) s.frames s.unit p.mark p.at m → ((t : State) → Reached (before ++ p ∷ []) t → IsAnswer font end ((before ++ p ∷ []) ++ ps) (run font t ps >>= finish font end)) → IsAnswer font end (before ++ p ∷ ps) ((m >>= λ t. run font t ps) >>= finish font end)
-  from_sure end {before = before} r p ps m (steps t h k le) on = subst (λ (l : List Piece). IsAnswer font end l (run font t ps >>= finish font end)) (one_more before p ps) (on t (reached_next r p t h k (le r.few)))
+  from_sure : (end : ℕ) {before : List Piece} {s : State} (r : Reached before s) (p : Piece) (ps : List Piece) (m : Answer State)
+      → SureIs font (In s p.mark p.at) (In s Right) (In s Comma) (NamedAt s.mode) s.frames s.unit p.mark p.at m
+      → ((t : State) → Reached (before ++ p ∷ []) t → IsAnswer font end ((before ++ p ∷ []) ++ ps) (run font t ps >>= finish font end))
+      → IsAnswer font end (before ++ p ∷ ps) ((m >>= λ t. run font t ps) >>= finish font end)
+  from_sure end {before = before} r p ps m (steps t h k le) on =
+      subst (λ (l : List Piece). IsAnswer font end l (run font t ps >>= finish font end)) (one_more before p ps)
+      (on t (reached_next r p t h k (le r.few)))
   from_sure end {before = before} r p ps m (refuses h k) on = misfit (misfit_at r p ps h) (λ name i. not_miscount r i k)
   from_sure end {before = before} r p ps m (miscounts name h k) on = miscount (misfit_at r p ps h) (is_miscount r p.mark name k)
 
-  from_step : (end : ℕ) {before : List Piece} {s : State} (r : Reached before s) (p : Piece) (ps : List Piece) (m : Answer State) → StepIs font (In s p.mark p.at) (In s Right) (In s Comma) (NamedAt s.mode) s.frames s.unit p.mark p.at m → ((t : State) → Reached (before ++ p ∷ []) t → IsAnswer font end ((before ++ p ∷ []) ++ ps) (run font t ps >>= finish font end)) → IsAnswer font end (before ++ p ∷ ps) ((m >>= λ t. run font t ps) >>= finish font end)
+  from_step : (end : ℕ) {before : List Piece} {s : State} (r : Reached before s) (p : Piece) (ps : List Piece) (m : Answer State)
+      → StepIs font (In s p.mark p.at) (In s Right) (In s Comma) (NamedAt s.mode) s.frames s.unit p.mark p.at m
+      → ((t : State) → Reached (before ++ p ∷ []) t → IsAnswer font end ((before ++ p ∷ []) ++ ps) (run font t ps >>= finish font end))
+      → IsAnswer font end (before ++ p ∷ ps) ((m >>= λ t. run font t ps) >>= finish font end)
   from_step end r p ps m (sure h) on = from_sure end r p ps m h on
   from_step end r p ps m (deep t h k many more) on = too_deep (too_deep_at r p ps t h k many more)
 
@@ -294,20 +331,30 @@ module _ (font : FontUnits) where
   or_false true = refl
   or_false false = refl
 
-  from_finish : (end : ℕ) {before : List Piece} {s : State} (r : Reached before s) (m : Answer Value) → FinishIs font (λ v. Completes font s [] v) s.unit end m → IsAnswer font end before m
+  from_finish : (end : ℕ) {before : List Piece} {s : State} (r : Reached before s) (m : Answer Value)
+      → FinishIs font (λ v. Completes font s [] v) s.unit end m → IsAnswer font end before m
   from_finish end {before = before} {s = s} r m (finds v h) =
       let t = text_out before v (subst (λ (l : List Piece). Completes font start l v) (append-nil before) ((r.same [] v).1 h)) in
       let u : has_unit before ≡ s.unit = ap has_unit (sym (append-nil before)) ∙ r.unit [] ∙ or_false s.unit in
       subst (λ (m : Answer Value). IsAnswer font end before m) (ap₂ valued u t.is) (evaluates t.text r.shallow)
-  from_finish end {before = before} r m (lacks h) = ends (beginning_now r) r.shallow (λ t i. h (value font t) ((r.same [] (value font t)).0 (subst (λ (l : List Piece). Completes font start l (value font t)) (sym (append-nil before)) (text_in before t i))))
+  from_finish end {before = before} r m (lacks h) =
+      ends (beginning_now r) r.shallow
+      (λ t i. h (value font t) ((r.same [] (value font t)).0 (subst (λ (l : List Piece). Completes font start l (value font t))
+      (sym (append-nil before)) (text_in before t i))))
 
-  answered : (end : ℕ) (before ps : List Piece) (s : State) → Reached before s → AllProper ps → IsAnswer font end (before ++ ps) (run font s ps >>= finish font end)
-  answered end before [] s r h = subst (λ (l : List Piece). IsAnswer font end l (finish font end s)) (sym (append-nil before)) (from_finish end r (finish font end s) (finish_is font s end))
-  answered end before (p ∷ ps) s r h = from_step end r p ps (step font s p) (step_is font s p h.0 r.valid) (λ t next. answered end (before ++ p ∷ []) ps t next h.1)
+  answered : (end : ℕ) (before ps : List Piece) (s : State) → Reached before s → AllProper ps
+      → IsAnswer font end (before ++ ps) (run font s ps >>= finish font end)
+  answered end before [] s r h = subst (λ (l : List Piece). IsAnswer font end l (finish font end s)) (sym (append-nil before))
+      (from_finish end r (finish font end s) (finish_is font s end))
+  answered end before (p ∷ ps) s r h =
+      from_step end r p ps (step font s p) (step_is font s p h.0 r.valid) (λ t next. answered end (before ++ p ∷ []) ps t next h.1)
 
   -- ---- one value
 
-  one_step : (s : State) (p : Piece) (ps : List Piece) (v w : Found) (m : Answer State) → StepIs font (In s p.mark p.at) (In s Right) (In s Comma) (NamedAt s.mode) s.frames s.unit p.mark p.at m → ((t : State) → Valid font t → Completes font t ps v → Completes font t ps w → v ≡ w) → Completes font s (p ∷ ps) v → Completes font s (p ∷ ps) w → v ≡ w
+  one_step : (s : State) (p : Piece) (ps : List Piece) (v w : Found) (m : Answer State)
+      → StepIs font (In s p.mark p.at) (In s Right) (In s Comma) (NamedAt s.mode) s.frames s.unit p.mark p.at m
+      → ((t : State) → Valid font t → Completes font t ps v → Completes font t ps w → v ≡ w) → Completes font s (p ∷ ps) v
+      → Completes font s (p ∷ ps) w → v ≡ w
   one_step s p ps v w m (sure (steps t h k le)) on a b = on t k.valid ((h ps v).0 a) ((h ps w).0 b)
   one_step s p ps v w m (sure (refuses h k)) on a b = absurd (h ps v a)
   one_step s p ps v w m (sure (miscounts name h k)) on a b = absurd (h ps v a)
@@ -315,7 +362,8 @@ module _ (font : FontUnits) where
 
   one_completion : (s : State) (ps : List Piece) (v w : Found) → AllProper ps → Valid font s → Completes font s ps v → Completes font s ps w → v ≡ w
   one_completion s [] v w h valid a b = one_value font s v w a b
-  one_completion s (p ∷ ps) v w h valid a b = one_step s p ps v w (step font s p) (step_is font s p h.0 valid) (λ t kept a b. one_completion t ps v w h.1 kept a b) a b
+  one_completion s (p ∷ ps) v w h valid a b =
+      one_step s p ps v w (step font s p) (step_is font s p h.0 valid) (λ t kept a b. one_completion t ps v w h.1 kept a b) a b
 
   -- two trees of a text have one value
   pub one_text : (ps : List Piece) (t u : Tree) → AllProper ps → IsText ps t → IsText ps u → value font t ≡ value font u

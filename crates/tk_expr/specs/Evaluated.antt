@@ -1,4 +1,5 @@
--- Private: only the code's own contracts use this; the law `evaluated_is_the_answer` says that it meets Evaluates, and `a_text_has_one_answer` that nothing else does.
+-- Private: only the code's own contracts use this; the law `evaluated_is_the_answer` says that it meets Evaluates, and
+-- `a_text_has_one_answer` that nothing else does.
 use Rattle.std.specs.Prelude.{ℕ, List}
 use Rattle.tk_token.specs.declared.Tok.{Tok}
 use Rattle.tk_token.specs.Answers.{Answer, ◌>>=◌}

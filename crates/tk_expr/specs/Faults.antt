@@ -1,7 +1,8 @@
 -- Which texts go on, and how deep they are.
 use Rattle.std.specs.Prelude.{◌≡◌, ℕ, ◌≤◌, List, [], ◌∷◌, ◌++◌, length, drop, Option, Some, None}
 use Rattle.tk_expr.specs.declared.pieces.Mark.{Mark}
-use Rattle.tk_expr.specs.declared.pieces.Mark.TheVariants.{Single, Double, Several, Question, Colon, Comma, Left, Right, Gap}
+use Rattle.tk_expr.specs.declared.pieces.Mark.TheVariants.{Single, Double, Several, Question, Colon, Comma, Left, Right}
+use Rattle.tk_expr.specs.declared.pieces.Mark.TheVariants.{Gap}
 use Rattle.tk_expr.specs.declared.pieces.Piece.{Piece}
 use Rattle.tk_expr.specs.Tree.{Tree}
 use Rattle.tk_expr.specs.Grammar.{piece, IsText}
@@ -60,7 +61,8 @@ open_in ps = open_from None [] ps
 abbrev pub IsShallow : List Piece → Type 0
 IsShallow ps = (before rest : List Piece) → ps ≡ before ++ rest → length (open_in before) ≤ 64
 
--- A wrong count of arguments of the call whose name stands at a place shows at the next piece, a `,` where a `)` fits or a `)` where a `,` fits.
+-- A wrong count of arguments of the call whose name stands at a place shows at the next piece, a `,` where a `)` fits
+-- or a `)` where a `,` fits.
 pub data IsMiscount (before : List Piece) (name : ℕ) : Mark → Type 0 where
   too_many : (at : ℕ) {openers : List Opener}
       → unanswered (open_in before) ≡ Call name ∷ openers

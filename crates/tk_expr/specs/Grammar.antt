@@ -1,20 +1,26 @@
--- The grammar of expressions. A rule goes from pieces to pieces: `Expression ps t qs` says that ps begins with the expression t, and that qs is left behind it.
+-- The grammar of expressions. A rule goes from pieces to pieces: `Expression ps t qs` says that ps begins with the
+-- expression t, and that qs is left behind it.
 use Rattle.std.specs.Prelude.{◌≡◌, ℕ, ◌+◌, Bool, true, false, List, [], ◌∷◌, Option, Some, None}
 use Rattle.tk_num.specs.Number.{is_decimal}
 use Rattle.tk_num.specs.declared.unit.Unit.{Unit}
 use Rattle.tk_expr.specs.declared.operators.Operator.{Operator}
-use Rattle.tk_expr.specs.declared.operators.Operator.TheVariants.{Raise, Multiply, Divide, Add, Subtract, Same, Differs, AtMost, AtLeast, Below, Above, Both, Either}
+use Rattle.tk_expr.specs.declared.operators.Operator.TheVariants.{Raise, Multiply, Divide, Add, Subtract, Same, Differs}
+use Rattle.tk_expr.specs.declared.operators.Operator.TheVariants.{AtMost, AtLeast, Below, Above, Both, Either}
 use Rattle.tk_expr.specs.declared.operators.Prefix.{Prefix}
 use Rattle.tk_expr.specs.declared.operators.Prefix.TheVariants.{Negate, Keep, Not}
 use Rattle.tk_expr.specs.declared.pieces.One.{One}
 use Rattle.tk_expr.specs.declared.pieces.Two.{Two}
 use Rattle.tk_expr.specs.declared.pieces.Most.{Most}
 use Rattle.tk_expr.specs.declared.pieces.Mark.{Mark}
-use Rattle.tk_expr.specs.declared.pieces.Mark.TheVariants.{Digit, Point, Measure, Radian, Pi, Single, Double, Several, Plus, Minus, Star, Slash, Caret, Bar, Ampersand, Equals, Bang, Less, Greater, Question, Colon, Comma, Left, Right, Gap}
+use Rattle.tk_expr.specs.declared.pieces.Mark.TheVariants.{Digit, Point, Measure, Radian, Pi, Single, Double, Several}
+use Rattle.tk_expr.specs.declared.pieces.Mark.TheVariants.{Plus, Minus, Star, Slash, Caret, Bar, Ampersand, Equals}
+use Rattle.tk_expr.specs.declared.pieces.Mark.TheVariants.{Bang, Less, Greater, Question, Colon, Comma, Left, Right}
+use Rattle.tk_expr.specs.declared.pieces.Mark.TheVariants.{Gap}
 use Rattle.tk_expr.specs.declared.pieces.Piece.{Piece}
 use Rattle.tk_characters.specs.Characters.{point}
 use Rattle.tk_expr.specs.Pieces.{digit_zero}
-use Rattle.tk_expr.specs.Tree.{Tree, A_number, A_pi, In_unit, In_degrees, Signed, Binary, Choice, Call_one, Call_two, Call_most}
+use Rattle.tk_expr.specs.Tree.{Tree, A_number, A_pi, In_unit, In_degrees, Signed, Binary, Choice, Call_one, Call_two}
+use Rattle.tk_expr.specs.Tree.{Call_most}
 
 -- ---- pieces in front
 
@@ -193,7 +199,8 @@ mutual
         → Grouped Conjunctions ps t qs
         → Operand Disjunctions ps t qs
 
-  -- `Rest l x ps y qs`: behind x, which was read already, ps goes on with operators of the level and their operands to y, grouped to the left, and qs is left
+  -- `Rest l x ps y qs`: behind x, which was read already, ps goes on with operators of the level and their operands to
+  -- y, grouped to the left, and qs is left
   pub data Rest : Precedence → Tree → List Piece → Tree → List Piece → Type 0 where
     stop : {l : Precedence} {ps : List Piece} {x : Tree} → Rest l x ps x ps
     with_unit : {ps qs rs : List Piece} {x y : Tree} {u : Unit} {at : ℕ}
@@ -249,7 +256,8 @@ mutual
     decimal : {ps qs : List Piece} {p : Piece}
         → skip ps ≡ p ∷ qs
         → is_decimal (decimal_text (p ∷ qs)) ≡ true
-        → Atom ps (A_number (decimal_text (p ∷ qs)) (next_unit (after_decimal (p ∷ qs))) p.at) (after_unit (after_decimal (p ∷ qs)))
+        → Atom ps (A_number (decimal_text (p ∷ qs)) (next_unit (after_decimal (p ∷ qs))) p.at)
+            (after_unit (after_decimal (p ∷ qs)))
     parenthesis : {ps qs rs ss : List Piece} {t : Tree} {m n : ℕ}
         → Begins Left m ps qs
         → Expression qs t rs
@@ -277,7 +285,8 @@ mutual
         → MoreArguments f t ss u us
         → Atom ps u us
 
-  -- `MoreArguments f t ps u qs`: behind the argument t, ps goes on with `,` and further arguments up to the `)`; the least or greatest of them is u
+  -- `MoreArguments f t ps u qs`: behind the argument t, ps goes on with `,` and further arguments up to the `)`; the
+  -- least or greatest of them is u
   pub data MoreArguments : Most → Tree → List Piece → Tree → List Piece → Type 0 where
     last : {f : Most} {ps qs : List Piece} {t : Tree} {at : ℕ}
         → Begins Right at ps qs

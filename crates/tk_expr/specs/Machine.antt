@@ -1,13 +1,16 @@
--- Private: only the code's own contracts use this; the law `evaluated_is_the_answer` says that what the machine makes of a text is its answer by Evaluates.
--- The machine reads an expression piece by piece, without a tree. In `1+2*3` the sum waits with 1, then the product with 2; where the pieces run out
--- the product settles first, then the sum. An open parenthesis keeps what waits outside it.
-use Rattle.std.specs.Prelude.{ℕ, Bool, true, false, not, nat_lt, if◌then◌else◌, List, [], ◌∷◌, length, Option, Some, None, is_some, Ok, ℤ}
+-- Private: only the code's own contracts use this; the law `evaluated_is_the_answer` says that what the machine makes
+-- of a text is its answer by Evaluates. The machine reads an expression piece by piece, without a tree. In `1+2*3` the
+-- sum waits with 1, then the product with 2; where the pieces run out the product settles first, then the sum. An open
+-- parenthesis keeps what waits outside it.
+use Rattle.std.specs.Prelude.{ℕ, Bool, true, false, not, nat_lt, if◌then◌else◌, List, [], ◌∷◌, length, Option, Some}
+use Rattle.std.specs.Prelude.{None, is_some, Ok, ℤ}
 use Rattle.tk_num.specs.declared.unit.Unit.{Unit}
 use Rattle.tk_token.specs.declared.Code.TheVariants.{TooDeep, Expression}
 use Rattle.tk_token.specs.Answers.{Answer, ◌>>=◌, fault}
 use Rattle.tk_expr.specs.declared.FontUnits.{FontUnits}
 use Rattle.tk_expr.specs.declared.operators.Operator.{Operator}
-use Rattle.tk_expr.specs.declared.operators.Operator.TheVariants.{Raise, Multiply, Divide, Add, Subtract, Same, Differs, AtMost, AtLeast, Below, Above, Both, Either}
+use Rattle.tk_expr.specs.declared.operators.Operator.TheVariants.{Raise, Multiply, Divide, Add, Subtract, Same, Differs}
+use Rattle.tk_expr.specs.declared.operators.Operator.TheVariants.{AtMost, AtLeast, Below, Above, Both, Either}
 use Rattle.tk_expr.specs.declared.operators.Prefix.{Prefix}
 use Rattle.tk_expr.specs.declared.operators.Prefix.TheVariants.{Negate, Keep, Not}
 use Rattle.tk_expr.specs.declared.operators.Truth.{Truth}
@@ -17,7 +20,10 @@ use Rattle.tk_expr.specs.declared.pieces.One.{One}
 use Rattle.tk_expr.specs.declared.pieces.Two.{Two}
 use Rattle.tk_expr.specs.declared.pieces.Most.{Most}
 use Rattle.tk_expr.specs.declared.pieces.Mark.{Mark}
-use Rattle.tk_expr.specs.declared.pieces.Mark.TheVariants.{Digit, Point, Measure, Radian, Pi, Single, Double, Several, Plus, Minus, Star, Slash, Caret, Bar, Ampersand, Equals, Bang, Less, Greater, Question, Colon, Comma, Left, Right, Gap}
+use Rattle.tk_expr.specs.declared.pieces.Mark.TheVariants.{Digit, Point, Measure, Radian, Pi, Single, Double, Several}
+use Rattle.tk_expr.specs.declared.pieces.Mark.TheVariants.{Plus, Minus, Star, Slash, Caret, Bar, Ampersand, Equals}
+use Rattle.tk_expr.specs.declared.pieces.Mark.TheVariants.{Bang, Less, Greater, Question, Colon, Comma, Left, Right}
+use Rattle.tk_expr.specs.declared.pieces.Mark.TheVariants.{Gap}
 use Rattle.tk_expr.specs.declared.pieces.Piece.{Piece}
 use Rattle.tk_expr.specs.declared.machine.Waiting.{Waiting}
 use Rattle.tk_expr.specs.declared.machine.Pending.{Pending}
@@ -30,7 +36,8 @@ use Rattle.tk_expr.specs.declared.machine.Mode.TheVariants.{Wanted, Ordered, Hal
 pub use Rattle.tk_expr.specs.declared.machine.State.{State}
 use Rattle.tk_expr.specs.declared.Value.{Value}
 use Rattle.tk_expr.specs.Number.{Decimal, no_digits, with_digit, with_point, plain_value, unit_value}
-use Rattle.tk_expr.specs.Values.{placed, truth, is_true, prefixed, operated, chosen, in_unit, in_degrees, pi_value, called_one, called_two, called_most}
+use Rattle.tk_expr.specs.Values.{placed, truth, is_true, prefixed, operated, chosen, in_unit, in_degrees, pi_value}
+use Rattle.tk_expr.specs.Values.{called_one, called_two, called_most}
 
 -- a number, or the first fault on the way to it
 abbrev pub Found : Type 0
@@ -77,7 +84,8 @@ signed_found s x = x >>= λ v. Ok (signed_by s v)
 
 -- nothing waits
 abbrev pub nothing : Pending
-nothing = record { exponent = no_signs; power = None; signs = no_signs; product = None; sum = None; comparison = None; conjunction = None; disjunction = None }
+nothing = record { exponent = no_signs; power = None; signs = no_signs; product = None; sum = None; comparison = None;
+    conjunction = None; disjunction = None }
 
 -- an operator that waits, with its right operand
 abbrev pub applied : Option Waiting → Found → Found
@@ -117,15 +125,18 @@ waiting o at x = Some (record { left = x; operator = o; at = at })
 
 -- what waits once `*` or `/` is read behind an operand: all that binds as tightly or tighter is settled
 abbrev pub product_waits : Operator → ℕ → Found → Pending → Pending
-product_waits o at x p = record p { exponent = no_signs; power = None; signs = no_signs; product = waiting o at (multiplied p x) }
+product_waits o at x p = record p { exponent = no_signs; power = None; signs = no_signs;
+    product = waiting o at (multiplied p x) }
 
 -- what waits once `+` or `-` is read behind an operand
 abbrev pub sum_waits : Operator → ℕ → Found → Pending → Pending
-sum_waits o at x p = record p { exponent = no_signs; power = None; signs = no_signs; product = None; sum = waiting o at (added p x) }
+sum_waits o at x p = record p { exponent = no_signs; power = None; signs = no_signs; product = None;
+    sum = waiting o at (added p x) }
 
 -- what waits once a comparison is read behind an operand
 abbrev pub comparison_waits : Operator → ℕ → Found → Pending → Pending
-comparison_waits o at x p = record p { exponent = no_signs; power = None; signs = no_signs; product = None; sum = None; comparison = waiting o at (compared p x) }
+comparison_waits o at x p = record p { exponent = no_signs; power = None; signs = no_signs; product = None; sum = None;
+    comparison = waiting o at (compared p x) }
 
 -- what waits once an operator is read behind an operand
 abbrev pub waits : Operator → ℕ → Found → Pending → Pending
@@ -229,7 +240,8 @@ bracket_goes_on at Plain v saved frames s = fault Expression at
 bracket_goes_on at (Only f name) v saved frames s = fault Expression name
 bracket_goes_on at (First f name) v saved frames s = Ok (wanted_in (Inside (Second f name v) saved ∷ frames) s)
 bracket_goes_on at (Second f name x) v saved frames s = fault Expression name
-bracket_goes_on at (Each f x) v saved frames s = Ok (wanted_in (Inside (Each f (Some (most_found f x v))) saved ∷ frames) s)
+bracket_goes_on at (Each f x) v saved frames s =
+    Ok (wanted_in (Inside (Each f (Some (most_found f x v))) saved ∷ frames) s)
 
 -- a `,` at that place, behind a value
 abbrev pub at_comma : ℕ → Found → List Frame → State → Answer State
@@ -250,11 +262,13 @@ to_mode mode s = Ok (record s { mode = mode })
 -- a sign before an exponent
 abbrev pub sign_exponent : Prefix → ℕ → State → Answer State
 sign_exponent Not at s = fault Expression at
-sign_exponent sign at s = Ok (record s { mode = Wanted; pending = record s.pending { exponent = with_prefix sign s.pending.exponent } })
+sign_exponent sign at s =
+    Ok (record s { mode = Wanted; pending = record s.pending { exponent = with_prefix sign s.pending.exponent } })
 
 -- a sign before an operand
 abbrev pub sign_operand : Option Waiting → Prefix → ℕ → State → Answer State
-sign_operand None sign at s = Ok (record s { mode = Wanted; pending = record s.pending { signs = with_prefix sign s.pending.signs } })
+sign_operand None sign at s =
+    Ok (record s { mode = Wanted; pending = record s.pending { signs = with_prefix sign s.pending.signs } })
 sign_operand (Some w) sign at s = sign_exponent sign at s
 
 -- one more piece where an operand is wanted
@@ -274,7 +288,8 @@ begin _ at s = fault Expression at
 
 -- one more piece directly behind `<` or `>`
 abbrev pub ordered : Mark → ℕ → State → Answer State
-ordered Equals at s = Ok (record s { mode = Wanted; pending = record s.pending { comparison = waiting_or_same s.pending.comparison } })
+ordered Equals at s =
+    Ok (record s { mode = Wanted; pending = record s.pending { comparison = waiting_or_same s.pending.comparison } })
 ordered mark at s = begin mark at s
 
 -- whether a mark is the second half of an operator that is written with a mark twice, or of `!=`

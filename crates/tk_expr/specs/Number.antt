@@ -6,7 +6,9 @@ use Rattle.tk_token.specs.Answers.{Answer}
 use Rattle.tk_expr.specs.declared.FontUnits.{FontUnits}
 use Rattle.tk_expr.specs.Values.{placed, decimal_in}
 
--- A decimal as far as it is read: its whole part, which stays at 1073741824 once it is there; whether its point was read; the digits behind the point, at most 17, as one number, with their count; and the place of its first digit or point.
+-- A decimal as far as it is read: its whole part, which stays at 1073741824 once it is there; whether its point was
+-- read; the digits behind the point, at most 17, as one number, with their count; and the place of its first digit or
+-- point.
 pub record Decimal : Type 0 where
   pub whole : ℕ
   pub pointed : Bool

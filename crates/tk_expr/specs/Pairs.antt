@@ -61,7 +61,8 @@ module _ (ev : Evaluation) (font : FontUnits) (at : ℕ) where
   by_comma ts None = by_colon (before_char colon ts)
   by_comma ts (Some c) = some_pair (plane c.front c.rest)
 
-  -- The numbers of a coordinate: `0<1?1:2,0` are 1 and 0, and `30:2` the angle 30 and twice the radius 2. There are none in another form.
+  -- The numbers of a coordinate: `0<1?1:2,0` are 1 and 0, and `30:2` the angle 30 and twice the radius 2. There are
+  -- none in another form.
   unfoldable pub paired : List Tok → Answer (Option ValuePair)
   paired ts = by_comma ts (before_char comma ts)
 

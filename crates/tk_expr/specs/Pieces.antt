@@ -9,7 +9,10 @@ use Rattle.tk_token.specs.declared.Kind.TheVariants.{Char, Open, Close, Space}
 use Rattle.tk_token.specs.declared.Tok.{Tok}
 use Rattle.tk_characters.specs.Characters as characters
 use Rattle.tk_expr.specs.declared.pieces.Mark.{Mark}
-use Rattle.tk_expr.specs.declared.pieces.Mark.TheVariants.{Digit, Point, Measure, Radian, Pi, Single, Double, Several, Word, Plus, Minus, Star, Slash, Caret, Bar, Ampersand, Equals, Bang, Less, Greater, Question, Colon, Comma, Left, Right, Gap, Other}
+use Rattle.tk_expr.specs.declared.pieces.Mark.TheVariants.{Digit, Point, Measure, Radian, Pi, Single, Double, Several}
+use Rattle.tk_expr.specs.declared.pieces.Mark.TheVariants.{Word, Plus, Minus, Star, Slash, Caret, Bar, Ampersand}
+use Rattle.tk_expr.specs.declared.pieces.Mark.TheVariants.{Equals, Bang, Less, Greater, Question, Colon, Comma, Left}
+use Rattle.tk_expr.specs.declared.pieces.Mark.TheVariants.{Right, Gap, Other}
 use Rattle.tk_expr.specs.declared.pieces.One.TheVariants.{Sin, Cos, Tan, Sqrt, Abs, Sign, Floor, Ceil, Round, Int}
 use Rattle.tk_expr.specs.declared.pieces.Two.TheVariants.{Mod, Pow, Veclen}
 use Rattle.tk_expr.specs.declared.pieces.Most.TheVariants.{Min, Max}

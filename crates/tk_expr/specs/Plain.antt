@@ -1,4 +1,5 @@
--- Private: only the code's own contracts use this. Texts that are a decimal with a sign or a unit, which need no frames.
+-- Private: only the code's own contracts use this. Texts that are a decimal with a sign or a unit, which need no
+-- frames.
 use Rattle.std.specs.Prelude.{◌≡◌, ℕ, Bool, true, false, if◌then◌else◌, List, Ok, neg_ℤ}
 use Rattle.tk_token.specs.Answers.{Answer, ◌>>=◌}
 use Rattle.tk_token.specs.declared.Tok.{Tok}

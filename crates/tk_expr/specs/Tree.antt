@@ -9,9 +9,11 @@ use Rattle.tk_expr.specs.declared.operators.Prefix.{Prefix}
 use Rattle.tk_expr.specs.declared.pieces.One.{One}
 use Rattle.tk_expr.specs.declared.pieces.Two.{Two}
 use Rattle.tk_expr.specs.declared.pieces.Most.{Most}
-use Rattle.tk_expr.specs.Values.{placed, prefixed, operated, chosen, decimal_in, in_unit, in_degrees, pi_value, called_one, called_two, called_most}
+use Rattle.tk_expr.specs.Values.{placed, prefixed, operated, chosen, decimal_in, in_unit, in_degrees, pi_value}
+use Rattle.tk_expr.specs.Values.{called_one, called_two, called_most}
 
--- An expression. What can have a fault has a place: a decimal that of its first piece, an operator and a function their own.
+-- An expression. What can have a fault has a place: a decimal that of its first piece, an operator and a function their
+-- own.
 pub data Tree : Type 0 where
   -- a decimal's text, with the unit right after it
   A_number : List ℕ → Option Unit → ℕ → Tree

@@ -1,5 +1,7 @@
 -- What operators, signs and functions make of numbers in 65536ths.
-use Rattle.std.specs.Prelude.{ℕ, zero, suc, ◌*◌, ◌+◌, ◌/◌, ◌%◌, Bool, not, ◌&&◌, ◌||◌, ◌==◌, nat_le, if◌then◌else◌, Option, Some, None, Result, Ok, Err, ℤ, pos, negsuc, neg_ℤ, ◌+ℤ◌, ◌-ℤ◌, ◌*ℤ◌, int_lt, int_le, int_div, int_rem, unsigned_abs}
+use Rattle.std.specs.Prelude.{ℕ, zero, suc, ◌*◌, ◌+◌, ◌/◌, ◌%◌, Bool, not, ◌&&◌, ◌||◌, ◌==◌, nat_le, if◌then◌else◌}
+use Rattle.std.specs.Prelude.{Option, Some, None, Result, Ok, Err, ℤ, pos, negsuc, neg_ℤ, ◌+ℤ◌, ◌-ℤ◌, ◌*ℤ◌, int_lt}
+use Rattle.std.specs.Prelude.{int_le, int_div, int_rem, unsigned_abs}
 use Rattle.std.specs.Int.{int_rem_euclid, int_min, int_max}
 use Rattle.std.specs.Ordering.{int_eq}
 use Rattle.tk_num.specs.Number.{scaled, product, quotient, floor_root, square_root}
@@ -13,7 +15,8 @@ use Rattle.tk_token.specs.declared.Code.TheVariants.{TooLarge, DivZero, Domain}
 use Rattle.tk_token.specs.Answers.{Answer, fault}
 use Rattle.tk_expr.specs.declared.FontUnits.{FontUnits}
 use Rattle.tk_expr.specs.declared.operators.Operator.{Operator}
-use Rattle.tk_expr.specs.declared.operators.Operator.TheVariants.{Raise, Multiply, Divide, Add, Subtract, Same, Differs, AtMost, AtLeast, Below, Above, Both, Either}
+use Rattle.tk_expr.specs.declared.operators.Operator.TheVariants.{Raise, Multiply, Divide, Add, Subtract, Same, Differs}
+use Rattle.tk_expr.specs.declared.operators.Operator.TheVariants.{AtMost, AtLeast, Below, Above, Both, Either}
 use Rattle.tk_expr.specs.declared.operators.Prefix.{Prefix}
 use Rattle.tk_expr.specs.declared.operators.Prefix.TheVariants.{Negate, Keep, Not}
 use Rattle.tk_expr.specs.declared.pieces.One.{One}
@@ -105,7 +108,8 @@ unit_length font unit n = length_in unit n font.em font.ex
 -- a decimal of n 65536ths without a unit, or in one; its whole part is at most 1073741823
 abbrev pub decimal_in : FontUnits → Option Unit → ℕ → Result ℤ NumFault
 decimal_in font None n = scaled (pos n)
-decimal_in font (Some unit) n = if nat_le (n / 65536) 1073741823 then scaled (unit_length font unit n) else Err faults.TooLarge
+decimal_in font (Some unit) n =
+    if nat_le (n / 65536) 1073741823 then scaled (unit_length font unit n) else Err faults.TooLarge
 
 -- any other number in a unit: its size in the unit, with its sign
 abbrev pub in_unit : FontUnits → Unit → ℤ → Result ℤ NumFault

@@ -1,6 +1,7 @@
 //! What is open in an expression.
 
-ghost use Rattle.std.specs.Prelude.{◌≡◌, ◌∷◌, [], ◌<◌, ◌≤◌, length, drop, nat_lt, true, false, MatchOption, OnSome, OnOk, OnErr, IfErr};
+ghost use Rattle.std.specs.Prelude.{◌≡◌, ◌∷◌, [], ◌<◌, ◌≤◌, length, drop, nat_lt, true, false, MatchOption, OnSome};
+ghost use Rattle.std.specs.Prelude.{OnOk, OnErr, IfErr};
 ghost use Rattle.tk_token.specs.declared.Code.TheVariants.{TooDeep};
 ghost use Rattle.tk_expr.specs.declared.machine.Frame.TheVariants.{Else};
 ghost use Rattle.tk_expr.specs.Machine as spec;
@@ -75,7 +76,8 @@ impl Frames {
 
     /// The condition and the first value of the innermost one, where it is a `?` that has its `:`.
     fn choice(&self) -> Option<(Found, Found)>
-        ensures { MatchOption result (spec.is_choice self.now ≡ false) (λ found. self.now ≡ Else found.0 found.1 ∷ drop 1 self.now) }
+        ensures { MatchOption result (spec.is_choice self.now ≡ false) (λ found. self.now
+            ≡ Else found.0 found.1 ∷ drop 1 self.now) }
     {
         if self.len == 0 {
             return None;

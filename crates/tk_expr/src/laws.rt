@@ -18,17 +18,20 @@ pub fn evaluated_is_the_answer()
 
 /// No tokens have two answers.
 pub fn a_text_has_one_answer()
-    ensures { (font : TheFontUnits) (at : ℕ) (toks : List Tok) (a b : Answer AValue) → Evaluates font at toks a → Evaluates font at toks b → a ≡ b }
+    ensures { (font : TheFontUnits) (at : ℕ) (toks : List Tok) (a b : Answer AValue) → Evaluates font at toks a
+        → Evaluates font at toks b → a ≡ b }
 {}
 
 /// The fault of an expression stands at one of its tokens, or at the place of an empty text.
 pub fn a_fault_stands_in_its_text()
-    ensures { (font : TheFontUnits) (at : ℕ) (toks : List Tok) (answer : Answer AValue) → Evaluates font at toks answer → IfErr answer (λ fault. IsPlaceOf at toks fault.at) }
+    ensures { (font : TheFontUnits) (at : ℕ) (toks : List Tok) (answer : Answer AValue) → Evaluates font at toks answer
+        → IfErr answer (λ fault. IsPlaceOf at toks fault.at) }
 {}
 
 /// So does the fault of a pair.
 pub fn a_fault_of_a_pair_stands_in_its_text()
-    ensures { (ev : Evaluation) → IsEvaluation ev → (font : TheFontUnits) (at : ℕ) (toks : List Tok) → IfErr (paired ev font at toks) (λ fault. IsPlaceOf at toks fault.at) }
+    ensures { (ev : Evaluation) → IsEvaluation ev → (font : TheFontUnits) (at : ℕ) (toks : List Tok)
+        → IfErr (paired ev font at toks) (λ fault. IsPlaceOf at toks fault.at) }
 {}
 
 /// The fault of a vector stands at the place that is given for it.

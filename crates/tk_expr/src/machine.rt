@@ -1,9 +1,9 @@
 //! The machine that reads an expression piece by piece, in one pass and without a tree.
 //!
 //! An operator waits with its left operand until its right operand is whole: in `1+2*3` the sum waits with 1, then the
-//! product with 2, and where the pieces run out the product settles first, then the sum. A tighter operator that waits is
-//! settled when a looser one is read, so that at most one of each level waits. What waits outside a parenthesis is kept in
-//! the frame of that parenthesis.
+//! product with 2, and where the pieces run out the product settles first, then the sum. A tighter operator that waits
+//! is settled when a looser one is read, so that at most one of each level waits. What waits outside a parenthesis is
+//! kept in the frame of that parenthesis.
 
 use crate::frames::Frames;
 use crate::number::Decimal;

@@ -99,10 +99,10 @@ fn paired(list: &[Tok], font: &FontUnits, at: u32) -> Result<Option<ValuePair>, 
 
 /// The numbers of a coordinate of the form `x,y`, `a:r` or `a:r and s`.
 ///
-/// A `,` outside braces tells the form, else a `:`, wherever they stand: `(0<1?1:2,3)` is of the form `x,y`. Where there
-/// is neither, there is no pair. A part of the form `{..}` loses its braces, but not the angle. The parts are read from
-/// left to right, with the faults of `eval`; a part that runs out does so at its last token, or at `at` where it is
-/// empty. A second `,` outside braces is refused as `Coordinate` at `at`, before any part is read.
+/// A `,` outside braces tells the form, else a `:`, wherever they stand: `(0<1?1:2,3)` is of the form `x,y`. Where
+/// there is neither, there is no pair. A part of the form `{..}` loses its braces, but not the angle. The parts are
+/// read from left to right, with the faults of `eval`; a part that runs out does so at its last token, or at `at` where
+/// it is empty. A second `,` outside braces is refused as `Coordinate` at `at`, before any part is read.
 #[tactic(auto, using(crate::proofs::Evaluations::paired_by))]
 pub fn pair(list: &[Tok], font: FontUnits, at: u32) -> Result<Option<ValuePair>, Fault>
     ensures { (ev : Evaluation) → IsEvaluation ev → result ≡ spec.paired ev font at list.now }
@@ -110,8 +110,8 @@ pub fn pair(list: &[Tok], font: FontUnits, at: u32) -> Result<Option<ValuePair>,
     paired(list, &font, at)
 }
 
-/// The length of a value along a vector of that length, in scaled points: a number with a unit is a length, and one without
-/// counts vectors. `TooLarge` stands at `at`.
+/// The length of a value along a vector of that length, in scaled points: a number with a unit is a length, and one
+/// without counts vectors. `TooLarge` stands at `at`.
 pub fn length_along(vector: Scaled, value: Value, at: u32) -> Result<Scaled, Fault>
     ensures { result ≡ spec.length_along vector at value }
 {

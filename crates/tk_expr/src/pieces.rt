@@ -1,6 +1,7 @@
 //! The pieces of an expression.
 
-ghost use Rattle.std.specs.Prelude.{◌≡◌, ◌<◌, ◌≤◌, List, [], ◌∷◌, ◌++◌, true, false, length, map, not, MatchOption, IfSome, IfNone};
+ghost use Rattle.std.specs.Prelude.{◌≡◌, ◌<◌, ◌≤◌, List, [], ◌∷◌, ◌++◌, true, false, length, map, not, MatchOption};
+ghost use Rattle.std.specs.Prelude.{IfSome, IfNone};
 ghost use Rattle.std.specs.List.{prefix_len, position, list_all};
 ghost use Rattle.arrayvec.specs.ArrayString.{array_string_len};
 ghost use Rattle.tk_token.specs.declared.Tok.{Tok as ATok};
@@ -248,7 +249,8 @@ fn run_mark(letters: &[Tok]) -> Mark
 /// The piece in front, and the tokens after it.
 #[inline(always)]
 pub(crate) fn next_piece(list: &[Tok]) -> Option<(Piece, &[Tok])>
-    ensures pieces { MatchOption result (spec.pieces_of list.now ≡ []) (λ found. spec.pieces_of list.now ≡ found.0 ∷ spec.pieces_of found.1.now) }
+    ensures pieces { MatchOption result (spec.pieces_of list.now ≡ []) (λ found. spec.pieces_of list.now
+        ≡ found.0 ∷ spec.pieces_of found.1.now) }
     ensures shorter { IfSome result (λ found. length found.1.now < length list.now) }
 {
     let (first, tail) = list.split_first()?;

@@ -81,7 +81,8 @@ fn all_digits(first: Decimal, list: &[Tok]) -> (Decimal, &[Tok])
 /// A decimal with the digit or the point that stands in front, and what stands behind it.
 #[inline(always)]
 fn next_digit(decimal: Decimal, list: &[Tok]) -> Option<(Decimal, &[Tok])>
-    ensures goes { IfSome result (λ found. (negative : Bool) → Reaches (counting decimal negative) list.now (counting found.0 negative) found.1.now) }
+    ensures goes { IfSome result (λ found. (negative : Bool)
+        → Reaches (counting decimal negative) list.now (counting found.0 negative) found.1.now) }
     ensures shorter { IfSome result (λ found. length found.1.now < length list.now) }
 {
     let (first, tail) = next_piece(list)?;

@@ -270,7 +270,8 @@ impl State {
 
     /// A `)` behind an operand.
     fn end(&mut self, x: Found, at: u32) -> Result<(), Fault>
-        ensures { Leads result self.new (spec.at_right at (spec.closed_behind x self.old).value (spec.closed_behind x self.old).frames self.old) }
+        ensures { Leads result self.new (spec.at_right at (spec.closed_behind x self.old).value
+            (spec.closed_behind x self.old).frames self.old) }
     {
         let value = self.close(x);
         match self.frames.pop() {
@@ -304,7 +305,8 @@ impl State {
 
     /// A `,` behind an operand.
     fn separate(&mut self, x: Found, at: u32) -> Result<(), Fault>
-        ensures { Leads result self.new (spec.at_comma at (spec.closed_behind x self.old).value (spec.closed_behind x self.old).frames self.old) }
+        ensures { Leads result self.new (spec.at_comma at (spec.closed_behind x self.old).value
+            (spec.closed_behind x self.old).frames self.old) }
     {
         let value = self.close(x);
         match self.frames.pop() {
@@ -345,7 +347,8 @@ impl State {
 
     /// A `:` behind an operand.
     fn otherwise(&mut self, x: Found, at: u32) -> Result<(), Fault>
-        ensures { Leads result self.new (spec.at_colon at (spec.closed_behind x self.old).value (spec.closed_behind x self.old).frames self.old) }
+        ensures { Leads result self.new (spec.at_colon at (spec.closed_behind x self.old).value
+            (spec.closed_behind x self.old).frames self.old) }
     {
         let value = self.close(x);
         match self.frames.pop() {

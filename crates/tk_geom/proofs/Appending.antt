@@ -19,7 +19,8 @@ range_end i n le = let e : n - i ≡ 0 = omega arith in rw e refl
 
 one_more : (old : List Seg) (piece : Seg) (rest : Result (List Seg) AffFault)
     → appended old (rest >>= λ pieces. Ok (piece ∷ pieces)) ≡ appended (old ++ piece ∷ []) rest
-one_more old piece (Ok pieces) = ap (λ (all : List Seg). let r : Result (List Seg) AffFault = Ok all in r) (sym (append_assoc old (piece ∷ []) pieces))
+one_more old piece (Ok pieces) =
+    ap (λ (all : List Seg). let r : Result (List Seg) AffFault = Ok all in r) (sym (append_assoc old (piece ∷ []) pieces))
 one_more old piece (Err fault) = refl
 
 more_of : (f : ℕ → Result Seg AffFault) (i : ℕ) (is : List ℕ) (old new : List Seg) (piece : Seg) → f i ≡ Ok piece → new ≡ old ++ piece ∷ []
@@ -36,12 +37,14 @@ fails_of : (f : ℕ → Result Seg AffFault) (i : ℕ) (is : List ℕ) (fault : 
 fails_of f i is fault e = rw e refl
 
 -- the piece at i is a fault: so is what is left
-pub faulty_piece_ends_all : (f : ℕ → Result Seg AffFault) (i n : ℕ) (fault : AffFault) → i < n → f i ≡ Err fault → try_map f (range_with_len i (n - i)) ≡ Err fault
+pub faulty_piece_ends_all : (f : ℕ → Result Seg AffFault) (i n : ℕ) (fault : AffFault) → i < n → f i ≡ Err fault
+    → try_map f (range_with_len i (n - i)) ≡ Err fault
 faulty_piece_ends_all f i n fault lt e = ap (try_map f) (range_next i n lt) ∙ fails_of f i (range_with_len (i + 1) (n - (i + 1))) fault e
 
 -- nothing is left
 pub no_more_pieces : (f : ℕ → Result Seg AffFault) (i n : ℕ) (old : List Seg) → n ≤ i → appended old (try_map f (range_with_len i (n - i))) ≡ Ok old
-no_more_pieces f i n old le = ap (λ is. appended old (try_map f is)) (range_end i n le) ∙ ap (λ (all : List Seg). let r : Result (List Seg) AffFault = Ok all in r)
+no_more_pieces f i n old le =
+    ap (λ is. appended old (try_map f is)) (range_end i n le) ∙ ap (λ (all : List Seg). let r : Result (List Seg) AffFault = Ok all in r)
     (append-nil old)
 
 -- a fault of pieces that were to follow others is their own
@@ -68,4 +71,5 @@ and_more old now new piece before pushed = (
 
 -- two lists further on
 pub goes_further : (old now new : List Seg) → Continues old now → Continues now new → Continues old new
-goes_further old now new before after = (before.0 ++ after.0, after.1 ∙ ap (λ (all : List Seg). all ++ after.0) before.1 ∙ append_assoc old before.0 after.0)
+goes_further old now new before after =
+    (before.0 ++ after.0, after.1 ∙ ap (λ (all : List Seg). all ++ after.0) before.1 ∙ append_assoc old before.0 after.0)

@@ -24,10 +24,12 @@ told_two p x y lx ly e = e ∙ ap (λ z. z *ℤ in64 y) (fits_64_bits x (omega a
 pub three_of : (p x y z : ℤ) → p ≡ x *ℤ y → unsigned_abs p ≤ 347892350976 → unsigned_abs z ≤ 589824 → in64 (in64 p *ℤ in64 z) ≡ x *ℤ y *ℤ z
 three_of p x y z e lp lz = wrapped_product p z 347892350976 589824 lp lz (omega arith) (omega arith) (omega arith) ∙ ap (λ q. q *ℤ z) e
 
-pub three_within : (p x y z : ℤ) → p ≡ x *ℤ y → unsigned_abs p ≤ 347892350976 → unsigned_abs z ≤ 589824 → unsigned_abs (x *ℤ y *ℤ z) ≤ 205195258022068224
+pub three_within : (p x y z : ℤ) → p ≡ x *ℤ y → unsigned_abs p ≤ 347892350976 → unsigned_abs z ≤ 589824
+    → unsigned_abs (x *ℤ y *ℤ z) ≤ 205195258022068224
 three_within p x y z e lp lz = rw (← e) (product_bound p z 347892350976 589824 lp lz)
 
-pub told_three : (p x y z : ℤ) → unsigned_abs x ≤ 589824 → unsigned_abs y ≤ 589824 → unsigned_abs z ≤ 589824 → p ≡ in64 x *ℤ in64 y *ℤ in64 z → p ≡ x *ℤ y *ℤ z
+pub told_three : (p x y z : ℤ) → unsigned_abs x ≤ 589824 → unsigned_abs y ≤ 589824 → unsigned_abs z ≤ 589824 → p ≡ in64 x *ℤ in64 y *ℤ in64 z
+    → p ≡ x *ℤ y *ℤ z
 told_three p x y z lx ly lz e = e ∙ ap (λ q. q *ℤ in64 z) (told_two _ x y lx ly refl) ∙ ap (λ q. x *ℤ y *ℤ q) (fits_64_bits z (omega arith))
 
 -- a small number of times
@@ -53,7 +55,8 @@ pub fits_128_bits : (z : ℤ) → unsigned_abs z ≤ 2 ^ 100 → in128 z ≡ z
 fits_128_bits z le = to_z-of_z w128 z (fits_signed_from_abs w128 z (omega arith))
 
 pub sum_fits : (a b : ℤ) → unsigned_abs a ≤ 2 ^ 98 → unsigned_abs b ≤ 2 ^ 98 → SFits w128 (in128 a +ℤ in128 b)
-sum_fits a b la lb = rw (fits_128_bits a (omega arith), fits_128_bits b (omega arith)) (fits_signed_from_abs w128 (a +ℤ b) (omega (arith, sum_bound a b)))
+sum_fits a b la lb =
+    rw (fits_128_bits a (omega arith), fits_128_bits b (omega arith)) (fits_signed_from_abs w128 (a +ℤ b) (omega (arith, sum_bound a b)))
 
 pub sum_is : (a b : ℤ) → unsigned_abs a ≤ 2 ^ 98 → unsigned_abs b ≤ 2 ^ 98 → in128 (in128 a +ℤ in128 b) ≡ a +ℤ b
 sum_is a b la lb =
@@ -83,7 +86,8 @@ pub times_within : (n p : ℤ) → unsigned_abs n ≤ 3 → unsigned_abs p ≤ 2
 times_within n p ln lp = rw (times_of n p ln lp) (product_bound n p 3 205195258022068224 ln lp)
 
 -- a weight w, a coordinate x
-pub told_weighted : (r w x e a : ℤ) → unsigned_abs w ≤ 615585774066204672 → unsigned_abs x ≤ 2147483646 → r ≡ in64 w *ℤ in64 x → w ≡ e → x ≡ a → r ≡ e *ℤ a
+pub told_weighted : (r w x e a : ℤ) → unsigned_abs w ≤ 615585774066204672 → unsigned_abs x ≤ 2147483646 → r ≡ in64 w *ℤ in64 x → w ≡ e → x ≡ a
+    → r ≡ e *ℤ a
 told_weighted r w x e a lw lx is ew ex = is ∙ ap (λ z. z *ℤ in64 x) (fits_64_bits w lw ∙ ew) ∙ ap (λ z. e *ℤ z) (fits_64_bits x (omega arith) ∙ ex)
 
 -- a weight n*p
@@ -94,7 +98,8 @@ told_times r n p x e a ln lp lx is ep ex = is ∙ ap (λ z. z *ℤ in64 x) (time
 
 -- ---- sums of them
 
-pub three_fit : (a b c : ℤ) → unsigned_abs a ≤ 2 ^ 92 → unsigned_abs b ≤ 2 ^ 92 → unsigned_abs c ≤ 2 ^ 92 → SFits w128 (in128 (in128 a +ℤ in128 b) +ℤ in128 c)
+pub three_fit : (a b c : ℤ) → unsigned_abs a ≤ 2 ^ 92 → unsigned_abs b ≤ 2 ^ 92 → unsigned_abs c ≤ 2 ^ 92
+    → SFits w128 (in128 (in128 a +ℤ in128 b) +ℤ in128 c)
 three_fit a b c la lb lc =
     rw (sum_is a b (omega arith) (omega arith), fits_128_bits c (omega arith))
     (fits_signed_from_abs w128 (a +ℤ b +ℤ c) (omega (arith, sum_bound a b, sum_bound (a +ℤ b) c)))
@@ -149,7 +154,8 @@ three_over_wide a b c la lb lc most =
 pub three_over_fits : (a b c : ℤ) → unsigned_abs a ≤ 2 ^ 92 → unsigned_abs b ≤ 2 ^ 92 → unsigned_abs c ≤ 2 ^ 92 → unsigned_abs (a +ℤ b +ℤ c) ≤ 2 ^ 72
     → SFits w64 (in128 (int_div (in128 (in128 (in128 a +ℤ in128 b) +ℤ in128 c)) (pos 4294967296)))
 three_over_fits a b c la lb lc most =
-    rw (three_over_wide a b c la lb lc most) (fits_signed_from_abs w64 (int_div (a +ℤ b +ℤ c) (pos 4294967296)) (omega (arith, small_over a b c most)))
+    rw (three_over_wide a b c la lb lc most) (fits_signed_from_abs w64 (int_div (a +ℤ b +ℤ c) (pos 4294967296))
+        (omega (arith, small_over a b c most)))
 
 pub three_over : (a b c : ℤ) → unsigned_abs a ≤ 2 ^ 92 → unsigned_abs b ≤ 2 ^ 92 → unsigned_abs c ≤ 2 ^ 92 → unsigned_abs (a +ℤ b +ℤ c) ≤ 2 ^ 72
     → in64 (in128 (int_div (in128 (in128 (in128 a +ℤ in128 b) +ℤ in128 c)) (pos 4294967296))) ≡ int_div (a +ℤ b +ℤ c) (pos 4294967296)

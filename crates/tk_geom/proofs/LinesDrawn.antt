@@ -1,5 +1,6 @@
 -- Lines of grids, one after another.
-use Rattle.std.proofs.Common.{◌≡◌, ℕ, suc, ◌+◌, ◌-◌, ◌<◌, ◌≤◌, List, [], ◌∷◌, ◌++◌, Ok, Err, ℤ, pos, ◌+ℤ◌, ◌*ℤ◌, refl, sym, ap, ◌∙◌, append_assoc, arith}
+use Rattle.std.proofs.Common.{◌≡◌, ℕ, suc, ◌+◌, ◌-◌, ◌<◌, ◌≤◌, List, [], ◌∷◌, ◌++◌, Ok, Err, ℤ, pos, ◌+ℤ◌, ◌*ℤ◌, refl, sym, ap, ◌∙◌, append_assoc}
+use Rattle.std.proofs.Common.{arith}
 use Rattle.std.proofs.lemmas.Int.{ints}
 use Rattle.std.proofs.lemmas.List.{append-nil}
 use Rattle.tk_token.specs.declared.Refusal.{Refusal}
@@ -18,7 +19,8 @@ use Rattle.tk_geom.specs.Grids.{Grid, grid_of, grid_behind, grid_appended, line_
 abbrev pub then_grid : Answer Grid → (ℕ → Answer Grid) → Answer Grid
 then_grid first rest = first >>= λ g. rest g.units >>= λ h. Ok (grid_behind g.pieces h)
 
-grids_joined : (old pieces : List Seg) (answer : Answer Grid) → grid_appended old (answer >>= λ h. Ok (grid_behind pieces h)) ≡ grid_appended (old ++ pieces) answer
+grids_joined : (old pieces : List Seg) (answer : Answer Grid)
+    → grid_appended old (answer >>= λ h. Ok (grid_behind pieces h)) ≡ grid_appended (old ++ pieces) answer
 grids_joined old pieces (Ok h) = ap (λ (all : List Seg). let r : Answer Grid = Ok (grid_of all h.units) in r) (sym (append_assoc old pieces h.pieces))
 grids_joined old pieces (Err fault) = refl
 
@@ -51,7 +53,8 @@ then_then : (g : Grid) (first : Answer Grid) (rest : ℕ → Answer Grid)
 then_then g (Ok a) rest = deeper g a (rest a.units)
   where
     deeper : (g a : Grid) (answer : Answer Grid)
-        → ((answer >>= λ h. Ok (grid_behind a.pieces h)) >>= λ h. Ok (grid_behind g.pieces h)) ≡ (answer >>= λ h. Ok (grid_behind (g.pieces ++ a.pieces) h))
+        → ((answer >>= λ h. Ok (grid_behind a.pieces h)) >>= λ h. Ok (grid_behind g.pieces h))
+            ≡ (answer >>= λ h. Ok (grid_behind (g.pieces ++ a.pieces) h))
     deeper g a (Ok h) = ap (λ (all : List Seg). let r : Answer Grid = Ok (grid_of all h.units) in r) (sym (append_assoc g.pieces a.pieces h.pieces))
     deeper g a (Err fault) = refl
 then_then g (Err fault) rest = refl
@@ -92,7 +95,8 @@ module _ (m : Matrix) (budget at : ℕ) where
       ∙ ap (λ l. then_grid (line_drawn m budget at units l) (left_of f s first n (i + 1))) (sym is)
 
   -- the i-th line was drawn: those from the next on are left
-  pub line_more : (f : ℤ → GridLine) (s first : ℤ) (n i units used : ℕ) (line : GridLine) (old new : List Seg) → i < n → line ≡ f ((first +ℤ pos i) *ℤ s)
+  pub line_more : (f : ℤ → GridLine) (s first : ℤ) (n i units used : ℕ) (line : GridLine) (old new : List Seg) → i < n
+      → line ≡ f ((first +ℤ pos i) *ℤ s)
       → grid_appended old (line_drawn m budget at units line) ≡ Ok (grid_of new used)
       → grid_appended old (left_of f s first n i units) ≡ grid_appended new (left_of f s first n (i + 1) used)
   line_more f s first n i units used line old new lt is drawn =

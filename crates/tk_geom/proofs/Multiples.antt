@@ -1,5 +1,6 @@
 -- The whole numbers whose products with a step lie between two bounds.
-use Rattle.std.proofs.Common.{◌≡◌, ◌↔◌, ℕ, zero, suc, ◌*◌, ◌<◌, length, get_or, Contains, ℤ, pos, negsuc, neg_ℤ, ◌+ℤ◌, ◌-ℤ◌, ◌*ℤ◌, ◌≤ℤ◌, ◌<ℤ◌, unsigned_abs, refl, sym, ap, subst, ◌∙◌, arith}
+use Rattle.std.proofs.Common.{◌≡◌, ◌↔◌, ℕ, zero, suc, ◌*◌, ◌<◌, length, get_or, Contains, ℤ, pos, negsuc, neg_ℤ, ◌+ℤ◌, ◌-ℤ◌, ◌*ℤ◌, ◌≤ℤ◌, ◌<ℤ◌}
+use Rattle.std.proofs.Common.{unsigned_abs, refl, sym, ap, subst, ◌∙◌, arith}
 use Rattle.std.specs.Int.{int_div_euclid}
 use Rattle.std.proofs.lemmas.Int.{ints}
 use Rattle.std.proofs.Math.IntN.{neg_ℤ-neg_ℤ}
@@ -12,16 +13,20 @@ suc_is_positive : (n : ℕ) → zero < suc n
 suc_is_positive n = omega arith
 
 under_floor : (z high : ℤ) (n : ℕ) → z ≤ℤ int_div_euclid high (pos (suc n)) → (z *ℤ pos (suc n)) ≤ℤ high
-under_floor (pos m) (pos a) n le = let k = (le-div_iff_mul-le {k = suc n} {x = m} {y = a} (suc_is_positive n)).0 (omega (arith, ints)) in omega (arith, ints, k)
+under_floor (pos m) (pos a) n le =
+    let k = (le-div_iff_mul-le {k = suc n} {x = m} {y = a} (suc_is_positive n)).0 (omega (arith, ints)) in omega (arith, ints, k)
 under_floor (pos m) (negsuc a) n le = absurd (omega (arith, ints))
 under_floor (negsuc m) (pos a) n le = omega (arith, ints)
-under_floor (negsuc m) (negsuc a) n le = let k = (div-lt_iff_lt-mul {k = suc n} {x = a} {y = suc m} (suc_is_positive n)).0 (omega (arith, ints)) in omega (arith, ints, k)
+under_floor (negsuc m) (negsuc a) n le =
+    let k = (div-lt_iff_lt-mul {k = suc n} {x = a} {y = suc m} (suc_is_positive n)).0 (omega (arith, ints)) in omega (arith, ints, k)
 
 floor_above : (z high : ℤ) (n : ℕ) → (z *ℤ pos (suc n)) ≤ℤ high → z ≤ℤ int_div_euclid high (pos (suc n))
-floor_above (pos m) (pos a) n le = let k = (le-div_iff_mul-le {k = suc n} {x = m} {y = a} (suc_is_positive n)).1 (omega (arith, ints)) in omega (arith, ints, k)
+floor_above (pos m) (pos a) n le =
+    let k = (le-div_iff_mul-le {k = suc n} {x = m} {y = a} (suc_is_positive n)).1 (omega (arith, ints)) in omega (arith, ints, k)
 floor_above (pos m) (negsuc a) n le = absurd (omega (arith, ints))
 floor_above (negsuc m) (pos a) n le = omega (arith, ints)
-floor_above (negsuc m) (negsuc a) n le = let k = (div-lt_iff_lt-mul {k = suc n} {x = a} {y = suc m} (suc_is_positive n)).1 (omega (arith, ints)) in omega (arith, ints, k)
+floor_above (negsuc m) (negsuc a) n le =
+    let k = (div-lt_iff_lt-mul {k = suc n} {x = a} {y = suc m} (suc_is_positive n)).1 (omega (arith, ints)) in omega (arith, ints, k)
 
 neg_times : (z : ℤ) (n : ℕ) → neg_ℤ z *ℤ pos n ≡ neg_ℤ (z *ℤ pos n)
 neg_times (pos zero) n = let e : zero * n ≡ zero = omega arith in rw e refl
@@ -77,7 +82,8 @@ among_rising first last k = (
       ),
 )
 
-among_of : (low high k : ℤ) (n : ℕ) → Contains (multiples_between low high (pos (suc n))) k ↔ ((low ≤ℤ (k *ℤ pos (suc n))) × ((k *ℤ pos (suc n)) ≤ℤ high))
+among_of : (low high k : ℤ) (n : ℕ)
+    → Contains (multiples_between low high (pos (suc n))) k ↔ ((low ≤ℤ (k *ℤ pos (suc n))) × ((k *ℤ pos (suc n)) ≤ℤ high))
 unfolding multiples_between
 among_of low high k n =
     let multiples_are_among = among_rising (ceiling_of low (pos (suc n))) (floor_of high (pos (suc n))) k in (

@@ -1,5 +1,6 @@
 -- Angles of at most 22.5 degrees have a tangent: their sines are below that of 23 degrees, their cosines above that of 67 degrees less.
-use Rattle.std.proofs.Common.{◌≡◌, ℕ, zero, suc, ◌+◌, ◌-◌, ◌*◌, ◌/◌, ◌%◌, ◌<◌, ◌≤◌, true, false, eqb, ltb, leb, get_or, Ok, ℤ, pos, negsuc, neg_ℤ, ◌+ℤ◌, ◌*ℤ◌, IsOk, int_div, unsigned_abs, refl, ap, ◌∙◌, arith}
+use Rattle.std.proofs.Common.{◌≡◌, ℕ, zero, suc, ◌+◌, ◌-◌, ◌*◌, ◌/◌, ◌%◌, ◌<◌, ◌≤◌, true, false, eqb, ltb, leb, get_or, Ok, ℤ, pos, negsuc, neg_ℤ}
+use Rattle.std.proofs.Common.{◌+ℤ◌, ◌*ℤ◌, IsOk, int_div, unsigned_abs, refl, ap, ◌∙◌, arith}
 use Rattle.std.proofs.lemmas.Bool.{le-leb}
 use Rattle.std.proofs.lemmas.Bool.Decides.{nat_tests}
 use Rattle.std.proofs.lemmas.Int.{ints, unsigned_abs-mul}
@@ -49,7 +50,8 @@ sine_between_is_between low high part le lt =
 
 quarter_most : (a : ℕ) → a ≤ 1474560 → quarter_sine a ≤ 25607
 quarter_most a le =
-    let b = sine_between_is_between (get_or sines (a / 65536) 0) (get_or sines (a / 65536 + 1) 0) (a % 65536) (sines_rise (a / 65536) (omega arith)) (omega arith) in
+    let b = sine_between_is_between (get_or sines (a / 65536) 0) (get_or sines (a / 65536 + 1) 0) (a % 65536) (sines_rise (a / 65536) (omega arith))
+            (omega arith) in
     let m = sines_to_23_are_at_most_that (a / 65536 + 1) (omega arith) in
     omega (arith, b, m)
 
@@ -62,10 +64,12 @@ turn_low : (a : ℕ) → a ≤ 5898240 → turn_sine a ≡ pos (quarter_sine a)
 turn_low a le = let s : ltb a 11796480 ≡ true = grind (arith, nat_tests) in let t : leb a 5898240 ≡ true = le-leb a 5898240 le in rw (s, t) refl
 
 turn_past : (a : ℕ) → 5898240 < a → a < 11796480 → turn_sine a ≡ pos (quarter_sine (11796480 - a))
-turn_past a low high = let s : ltb a 11796480 ≡ true = grind (arith, nat_tests) in let t : leb a 5898240 ≡ false = grind (arith, nat_tests) in rw (s, t) refl
+turn_past a low high =
+    let s : ltb a 11796480 ≡ true = grind (arith, nat_tests) in let t : leb a 5898240 ≡ false = grind (arith, nat_tests) in rw (s, t) refl
 
 turn_last : (a : ℕ) → 17694720 < a → a < 23592960 → turn_sine a ≡ neg_ℤ (pos (quarter_sine (11796480 - (a - 11796480))))
-turn_last a low high = let s : ltb a 11796480 ≡ false = grind (arith, nat_tests) in let t : leb (a - 11796480) 5898240 ≡ false = grind (arith, nat_tests)
+turn_last a low high =
+    let s : ltb a 11796480 ≡ false = grind (arith, nat_tests) in let t : leb (a - 11796480) 5898240 ≡ false = grind (arith, nat_tests)
     in rw (s, t) refl
 
 sine_of : (angle : ℤ) → unsigned_abs angle ≤ 1474560 → unsigned_abs (sine angle) ≤ 25607
@@ -124,7 +128,8 @@ pub tangent_there : (angle : ℤ) → unsigned_abs angle ≤ 1474560 → (t : �
 tangent_there angle le =
     let c = cosine_of angle le in
     let s = sine_of angle le in
-    (int_div (sine angle *ℤ pos 65536) (pos c.0), ap (quotient (sine angle)) c.1 ∙ quotient_there (sine angle) c.0 s c.2, quotient_small (sine angle) c.0 s c.2)
+    (int_div (sine angle *ℤ pos 65536) (pos c.0), ap (quotient (sine angle)) c.1 ∙ quotient_there (sine angle) c.0 s c.2, quotient_small
+        (sine angle) c.0 s c.2)
 
 pub IsOk-tangent : (angle : ℤ) → 2 * unsigned_abs angle ≤ 2949120 → IsOk (tangent angle)
 IsOk-tangent angle le = let t = tangent_there angle (omega arith) in rw t.1 refl

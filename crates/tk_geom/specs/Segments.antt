@@ -1,6 +1,7 @@
 -- Places on what a path drew last. A place is counted in 65536ths of the way; one below 0 or above 65536 lies beyond an
 -- end.
-use Rattle.std.specs.Prelude.{◌≤◌, ◌^◌, if◌then◌else◌, Result, Ok, ℤ, pos, ◌+ℤ◌, ◌-ℤ◌, ◌*ℤ◌, int_div, int_lt, unsigned_abs}
+use Rattle.std.specs.Prelude.{◌≤◌, ◌^◌, if◌then◌else◌, Result, Ok, ℤ, pos, ◌+ℤ◌, ◌-ℤ◌, ◌*ℤ◌, int_div, int_lt}
+use Rattle.std.specs.Prelude.{unsigned_abs}
 use Rattle.tk_item.specs.declared.Point.{Point}
 use Rattle.tk_affine.specs.declared.AffFault.{AffFault}
 use Rattle.tk_affine.specs.Images.{point_at}

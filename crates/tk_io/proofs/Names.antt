@@ -17,18 +17,23 @@ use Rattle.tk_io.proofs.DeskFiles.{position-map}
 
 -- the file at a place is the first of its name
 abbrev pub IsFirst : List MemFile → ℕ → Type 0
-IsFirst files place = (d : MemFile) → position (λ file. bytes_eq (string_bytes file.name) (string_bytes (get_or files place d).name)) files ≡ Some place
+IsFirst files place =
+    (d : MemFile) → position (λ file. bytes_eq (string_bytes file.name) (string_bytes (get_or files place d).name)) files ≡ Some place
 
 -- where each is the first of its name, the names differ
 pub NamesDiffer-from_first : (files : List MemFile) → ((k : ℕ) → k < length files → IsFirst files k) → NamesDiffer files
 NamesDiffer-from_first files first i j d before within same =
-    let at_i : bytes_eq (string_bytes (get_or files i d).name) (string_bytes (get_or files j d).name) ≡ false = (position-Some (λ file. bytes_eq (string_bytes file.name) (string_bytes (get_or files j d).name)) files j d (first j within d)).2 i before in
+    let at_i : bytes_eq (string_bytes (get_or files i d).name) (string_bytes (get_or files j d).name)
+            ≡ false = (position-Some (λ file. bytes_eq (string_bytes file.name) (string_bytes (get_or files j d).name)) files j d
+            (first j within d)).2 i before in
     false≢true (sym at_i ∙ (bytes_eq-Decides (string_bytes (get_or files i d).name) (string_bytes (get_or files j d).name)).1 same)
 
 -- where the names differ, each is the first of its name
-pub NamesDiffer-first : (files : List MemFile) (place : ℕ) (d : MemFile) → place < length files → NamesDiffer files → position (λ file. bytes_eq (string_bytes file.name) (string_bytes (get_or files place d).name)) files ≡ Some place
+pub NamesDiffer-first : (files : List MemFile) (place : ℕ) (d : MemFile) → place < length files → NamesDiffer files
+    → position (λ file. bytes_eq (string_bytes file.name) (string_bytes (get_or files place d).name)) files ≡ Some place
 NamesDiffer-first files place d within differ =
-    ap (λ (n : ℕ). cond (nat_lt n (length files)) (Some n) None) (position_or_len_is passes files place d (omega arith) (λ k before. not_true (passes (get_or files k d)) (λ e. differ k place d before within ((decides k).0 e))) (λ _. (decides place).1 refl))
+    ap (λ (n : ℕ). cond (nat_lt n (length files)) (Some n) None) (position_or_len_is passes files place d (omega arith)
+        (λ k before. not_true (passes (get_or files k d)) (λ e. differ k place d before within ((decides k).0 e))) (λ _. (decides place).1 refl))
     ∙ ap (λ (b : Bool). cond b (Some place) None) ((Decides-ltb place (length files)).1 within)
   where
     passes : MemFile → Bool
@@ -45,7 +50,9 @@ NamesDiffer-first files place d within differ =
 pub HoldsEach-new : (files : List MemFile) → NamesDiffer files → HoldsEach (new_desk files) files
 HoldsEach-new files differ place d within =
     let file = get_or files place d in
-    let there : find_file (new_desk files) (string_bytes file.name) ≡ Some place = position-map (λ (f : List ℕ × List ℕ). bytes_eq f.0 (string_bytes file.name)) shown files ∙ NamesDiffer-first files place d within differ in
+    let there : find_file (new_desk files) (string_bytes file.name)
+            ≡ Some place = position-map (λ (f : List ℕ × List ℕ). bytes_eq f.0 (string_bytes file.name)) shown files
+            ∙ NamesDiffer-first files place d within differ in
     ap (λ (o : Option ℕ). option_map (λ p. drop (start_at (new_desk files) p) (file_at (new_desk files) p).1) o) there
     ∙ ap (λ (k : ℕ). Some (drop k (file_at (new_desk files) place).1)) (same (bytes_eq (file_at (new_desk files) place).0 standard_input))
     ∙ ap (λ (f : List ℕ × List ℕ). Some f.1) (get_or-map shown files place d ([], []) within)

@@ -1,5 +1,6 @@
 -- Files in memory, of which one is read at a time.
-use Rattle.std.specs.Prelude.{◌≡◌, ◌≢◌, ℕ, ◌+◌, ◌<◌, ◌≤◌, Bool, false, if◌then◌else◌, List, [], map, length, drop, position, slice_index_or, string_bytes, AllPairs, Option, Some, None}
+use Rattle.std.specs.Prelude.{◌≡◌, ◌≢◌, ℕ, ◌+◌, ◌<◌, ◌≤◌, Bool, false, if◌then◌else◌, List, [], map, length, drop}
+use Rattle.std.specs.Prelude.{position, slice_index_or, string_bytes, AllPairs, Option, Some, None}
 use Rattle.std.specs.Option.{option_map, option_map_or}
 use Rattle.std.specs.Str.{bytes_eq}
 use Rattle.tk_io.specs.declared.desk.MemFile.{MemFile}

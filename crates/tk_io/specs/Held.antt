@@ -1,5 +1,6 @@
 -- A sink in memory.
-use Rattle.std.specs.Prelude.{◌≡◌, ◌↔◌, ◌⊎◌, ℕ, ◌-◌, ◌<◌, min, IsTrue, List, ◌++◌, length, take, Some, Result, IfOk, OnErr, IsErr}
+use Rattle.std.specs.Prelude.{◌≡◌, ◌↔◌, ◌⊎◌, ℕ, ◌-◌, ◌<◌, min, IsTrue, List, ◌++◌, length, take, Some, Result, IfOk}
+use Rattle.std.specs.Prelude.{OnErr, IsErr}
 use Rattle.tk_io.specs.declared.Failed.{Failed}
 use Rattle.tk_io.specs.Causes.{count_on, is_listed}
 use Rattle.tk_io.specs.Sink.{Sunk}

@@ -1,5 +1,6 @@
 -- What reading all of a file does.
-use Rattle.std.specs.Prelude.{◌≡◌, ◌≢◌, ℕ, ◌<◌, ◌≤◌, true, false, List, [], length, drop, Some, None, IfSome, Result, IfOk, OnOk, IsErr, IsErrOf, unwrap_or}
+use Rattle.std.specs.Prelude.{◌≡◌, ◌≢◌, ℕ, ◌<◌, ◌≤◌, true, false, List, [], length, drop, Some, None, IfSome, Result}
+use Rattle.std.specs.Prelude.{IfOk, OnOk, IsErr, IsErrOf, unwrap_or}
 use Rattle.tk_io.specs.declared.reading.ReadRefusal.{ReadRefusal}
 use Rattle.tk_io.specs.declared.reading.ReadRefusal.TheVariants.{Failed, TooLong}
 use Rattle.tk_io.specs.Causes.{Rose}

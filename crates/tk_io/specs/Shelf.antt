@@ -1,5 +1,6 @@
 -- What a shelf of files means, and what its calls do.
-use Rattle.std.specs.Prelude.{◌≡◌, ◌≢◌, ℕ, ◌<◌, ◌≤◌, Bool, true, false, if◌then◌else◌, List, [], length, take, drop, codes, Option, Some, None, IfSome, Result, IfOk, OnOk, OnErr, IsOk, IsErr, unwrap_or}
+use Rattle.std.specs.Prelude.{◌≡◌, ◌≢◌, ℕ, ◌<◌, ◌≤◌, Bool, true, false, if◌then◌else◌, List, [], length, take, drop}
+use Rattle.std.specs.Prelude.{codes, Option, Some, None, IfSome, Result, IfOk, OnOk, OnErr, IsOk, IsErr, unwrap_or}
 use Rattle.std.specs.Str.{bytes_eq}
 use Rattle.tk_io.specs.declared.Failed.{Failed}
 use Rattle.tk_io.specs.Causes.{Rose, count_on}

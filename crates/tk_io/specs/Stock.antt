@@ -1,5 +1,6 @@
 -- The shelf in memory that fails where it is asked to.
-use Rattle.std.specs.Prelude.{◌≡◌, ◌↔◌, ◌⊎◌, ℕ, ◌-◌, min, false, IsTrue, List, length, take, drop, slice_index, slice_set, Option, Some, None, IfSome, Result, IfOk, OnOk, OnErr, IsErr}
+use Rattle.std.specs.Prelude.{◌≡◌, ◌↔◌, ◌⊎◌, ℕ, ◌-◌, min, false, IsTrue, List, length, take, drop, slice_index}
+use Rattle.std.specs.Prelude.{slice_set, Option, Some, None, IfSome, Result, IfOk, OnOk, OnErr, IsErr}
 use Rattle.std.specs.Option.{option_map_or}
 use Rattle.tk_io.specs.declared.Failed.{Failed}
 use Rattle.tk_io.specs.Causes.{count_on, is_listed}

@@ -1,5 +1,6 @@
 -- The shelf in memory of which no call fails.
-use Rattle.std.specs.Prelude.{◌≡◌, ◌≢◌, ℕ, ◌-◌, min, Bool, true, ◌&&◌, not, if◌then◌else◌, List, [], length, take, drop, Option, Some, None, IfSome, is_none}
+use Rattle.std.specs.Prelude.{◌≡◌, ◌≢◌, ℕ, ◌-◌, min, Bool, true, ◌&&◌, not, if◌then◌else◌, List, [], length, take, drop}
+use Rattle.std.specs.Prelude.{Option, Some, None, IfSome, is_none}
 use Rattle.std.specs.Option.{option_or}
 use Rattle.std.specs.Str.{bytes_eq}
 use Rattle.tk_io.specs.declared.sure.Absent.{Absent}

@@ -13,7 +13,8 @@ use Rattle.tk_num.specs.Number.{IsScaled}
 use Rattle.tk_item.specs.declared.Frame.{Frame}
 use Rattle.tk_item.specs.declared.Point.{Point}
 use Rattle.tk_item.specs.declared.Seg.{Seg}
-use Rattle.tk_item.specs.Frame.{points_of_path, points_of_piece, box_round, joined, with_box, round_boxes, round_points, IsWithin, AreWithin, IsLeastRound, IsProperFrame}
+use Rattle.tk_item.specs.Frame.{points_of_path, points_of_piece, box_round, joined, with_box, round_boxes, round_points, IsWithin, AreWithin}
+use Rattle.tk_item.specs.Frame.{IsLeastRound, IsProperFrame}
 
 -- ---- one box within another
 
@@ -24,13 +25,16 @@ in_turn : (f g h : Frame) → IsWithin f g → IsWithin g h → IsWithin f h
 in_turn f g h a b = record { left = omega (arith, ints); bottom = omega (arith, ints); right = omega (arith, ints); top = omega (arith, ints) }
 
 first_within : (f g : Frame) → IsWithin f (joined f g)
-first_within f g = record { left = omega (arith, ints, clamps); bottom = omega (arith, ints, clamps); right = omega (arith, ints, clamps); top = omega (arith, ints, clamps) }
+first_within f g = record { left = omega (arith, ints, clamps); bottom = omega (arith, ints, clamps); right = omega (arith, ints, clamps);
+    top = omega (arith, ints, clamps) }
 
 second_within : (f g : Frame) → IsWithin g (joined f g)
-second_within f g = record { left = omega (arith, ints, clamps); bottom = omega (arith, ints, clamps); right = omega (arith, ints, clamps); top = omega (arith, ints, clamps) }
+second_within f g = record { left = omega (arith, ints, clamps); bottom = omega (arith, ints, clamps); right = omega (arith, ints, clamps);
+    top = omega (arith, ints, clamps) }
 
 both_within : (f g h : Frame) → IsWithin f h → IsWithin g h → IsWithin (joined f g) h
-both_within f g h a b = record { left = omega (arith, ints, clamps); bottom = omega (arith, ints, clamps); right = omega (arith, ints, clamps); top = omega (arith, ints, clamps) }
+both_within f g h a b = record { left = omega (arith, ints, clamps); bottom = omega (arith, ints, clamps); right = omega (arith, ints, clamps);
+    top = omega (arith, ints, clamps) }
 
 -- ---- the least box
 
@@ -47,12 +51,14 @@ least_round_parted f g boxes h is = record {
       (All-cons (inside h) g boxes (in_turn g (joined f g) h (second_within f g) both) rest);
   least = λ other all.
       let rest : AreWithin (g ∷ boxes) other = All-tail (inside other) f (g ∷ boxes) all in
-      let both : IsWithin (joined f g) other = both_within f g other (All-head (inside other) f (g ∷ boxes) all) (All-head (inside other) g boxes rest) in
+      let both : IsWithin (joined f g) other = both_within f g other (All-head (inside other) f (g ∷ boxes) all)
+              (All-head (inside other) g boxes rest) in
       is.least other (All-cons (inside other) (joined f g) boxes both (All-tail (inside other) g boxes rest));
 }
 
 least_of_all : (boxes : List Frame) (f : Frame) → IfSome (round_boxes (Some f) boxes) (IsLeastRound (f ∷ boxes))
-least_of_all [] f = record { round = All-cons (inside f) f [] (frame_within_itself f) (All-nil (inside f)); least = λ other all. All-head (inside other) f [] all }
+least_of_all [] f = record { round = All-cons (inside f) f [] (frame_within_itself f) (All-nil (inside f)); least = λ other all.
+    All-head (inside other) f [] all }
 least_of_all (g ∷ boxes) f = IfSome_then (round_boxes (Some (joined f g)) boxes) (least_of_all boxes (joined f g)) (least_round_parted f g boxes)
 
 -- what is folded from boxes is the least box round them
@@ -61,7 +67,8 @@ least_round None [] = tt
 least_round None (g ∷ boxes) = least_of_all boxes g
 least_round (Some f) boxes = least_of_all boxes f
 
-pub same_sides : (a b c d x y z w : ℤ) → a ≡ x → b ≡ y → c ≡ z → d ≡ w → ◌≡◌ {A = Frame} record { left = a; bottom = b; right = c; top = d } record { left = x; bottom = y; right = z; top = w }
+pub same_sides : (a b c d x y z w : ℤ) → a ≡ x → b ≡ y → c ≡ z → d ≡ w
+    → ◌≡◌ {A = Frame} record { left = a; bottom = b; right = c; top = d } record { left = x; bottom = y; right = z; top = w }
 same_sides a b c d x y z w p q r s = rw (p, q, r, s)
 
 -- there is only one
@@ -69,7 +76,8 @@ pub one_least : (boxes : List Frame) (f g : Frame) → IsLeastRound boxes f → 
 one_least boxes f g a b =
     let there : IsWithin f g = a.least g b.round in
     let back : IsWithin g f = b.least f a.round in
-    same_sides f.left f.bottom f.right f.top g.left g.bottom g.right g.top (omega (arith, ints)) (omega (arith, ints)) (omega (arith, ints)) (omega (arith, ints))
+    same_sides f.left f.bottom f.right f.top g.left g.bottom g.right g.top (omega (arith, ints)) (omega (arith, ints)) (omega (arith, ints))
+        (omega (arith, ints))
 
 -- ---- none
 
@@ -87,7 +95,8 @@ no_points : (half : ℤ) (points : List Point) → map (box_round half) points �
 no_points half [] e = refl
 no_points half (p ∷ points) e = cc
 
-pub none_round_points : (half : ℤ) (frame : Option Frame) (points : List Point) → IsNone (round_points half frame points) ↔ ((frame ≡ None) × (points ≡ []))
+pub none_round_points : (half : ℤ) (frame : Option Frame) (points : List Point)
+    → IsNone (round_points half frame points) ↔ ((frame ≡ None) × (points ≡ []))
 none_round_points half frame points =
     let (there, back) = none_round frame (map (box_round half) points) in
     (λ none. let (f, p) = there none in (f, no_points half points p), λ both. let (f, p) = both in back (f, ap (map (box_round half)) p))
@@ -99,21 +108,28 @@ pub round_boxes-append : (frame : Option Frame) (xs ys : List Frame) → round_b
 round_boxes-append frame xs ys = fold-append with_box frame xs ys
 
 -- points after points
-pub round_points-append : (half : ℤ) (frame : Option Frame) (xs ys : List Point) → round_points half frame (xs ++ ys) ≡ round_points half (round_points half frame xs) ys
-round_points-append half frame xs ys = rw (map-append (box_round half) xs ys) (fold-append with_box frame (map (box_round half) xs) (map (box_round half) ys))
+pub round_points-append : (half : ℤ) (frame : Option Frame) (xs ys : List Point)
+    → round_points half frame (xs ++ ys) ≡ round_points half (round_points half frame xs) ys
+round_points-append half frame xs ys =
+    rw (map-append (box_round half) xs ys) (fold-append with_box frame (map (box_round half) xs) (map (box_round half) ys))
 
 -- pieces after pieces
-pub round_pieces-append : (half : ℤ) (frame : Option Frame) (xs ys : List Seg) → round_points half frame (points_of_path (xs ++ ys)) ≡ round_points half (round_points half frame (points_of_path xs)) (points_of_path ys)
-round_pieces-append half frame xs ys = rw (flat_map-append points_of_piece xs ys) (round_points-append half frame (points_of_path xs) (points_of_path ys))
+pub round_pieces-append : (half : ℤ) (frame : Option Frame) (xs ys : List Seg)
+    → round_points half frame (points_of_path (xs ++ ys)) ≡ round_points half (round_points half frame (points_of_path xs)) (points_of_path ys)
+round_pieces-append half frame xs ys =
+    rw (flat_map-append points_of_piece xs ys) (round_points-append half frame (points_of_path xs) (points_of_path ys))
 
 -- ---- the code's steps
 
 -- three points one by one
-pub curve_widens : (half : ℤ) (frame : Option Frame) (p q r : Point) (f g h : Frame) → with_box frame (box_round half p) ≡ Some f → with_box (Some f) (box_round half q) ≡ Some g → with_box (Some g) (box_round half r) ≡ Some h → Some h ≡ round_points half frame (p ∷ q ∷ r ∷ [])
+pub curve_widens : (half : ℤ) (frame : Option Frame) (p q r : Point) (f g h : Frame) → with_box frame (box_round half p) ≡ Some f
+    → with_box (Some f) (box_round half q) ≡ Some g → with_box (Some g) (box_round half r) ≡ Some h
+    → Some h ≡ round_points half frame (p ∷ q ∷ r ∷ [])
 curve_widens half frame p q r f g h first second third = rw first cc
 
 -- all pieces, once the loop has passed them
-pub all_pieces : (half : ℤ) (frame r : Option Frame) (segs : List Seg) (i : ℕ) → length segs ≤ i → r ≡ round_points half frame (points_of_path (take i segs)) → r ≡ round_points half frame (points_of_path segs)
+pub all_pieces : (half : ℤ) (frame r : Option Frame) (segs : List Seg) (i : ℕ) → length segs ≤ i
+    → r ≡ round_points half frame (points_of_path (take i segs)) → r ≡ round_points half frame (points_of_path segs)
 all_pieces half frame r segs i passed so_far = rw (take_all i segs passed) at so_far
 
 -- ---- the range
@@ -138,14 +154,19 @@ box_proper half p low high x_in y_in = record {
   top = omega (arith, ints);
 }
 
-boxes_proper : (frame : Option Frame) (boxes : List Frame) → All IsProperFrame boxes → IfSome frame IsProperFrame → IfSome (round_boxes frame boxes) IsProperFrame
+boxes_proper : (frame : Option Frame) (boxes : List Frame) → All IsProperFrame boxes → IfSome frame IsProperFrame
+    → IfSome (round_boxes frame boxes) IsProperFrame
 boxes_proper frame [] all fine = fine
 boxes_proper None (g ∷ boxes) all fine = boxes_proper (Some g) boxes (All-tail IsProperFrame g boxes all) (All-head IsProperFrame g boxes all)
-boxes_proper (Some f) (g ∷ boxes) all fine = boxes_proper (Some (joined f g)) boxes (All-tail IsProperFrame g boxes all) (joined_proper f g fine (All-head IsProperFrame g boxes all))
+boxes_proper (Some f) (g ∷ boxes) all fine =
+    boxes_proper (Some (joined f g)) boxes (All-tail IsProperFrame g boxes all) (joined_proper f g fine (All-head IsProperFrame g boxes all))
 
 abbrev IsScaledPoint : Point → Type 0
 IsScaledPoint p = IsScaled p.x × IsScaled p.y
 
 -- a frame round scaled points stays within its range
-pub points_proper : (half : ℤ) (frame : Option Frame) (points : List Point) → pos 0 ≤ℤ half → half ≤ℤ pos 536870912 → All (λ p. IsScaled p.x × IsScaled p.y) points → IfSome frame IsProperFrame → IfSome (round_points half frame points) IsProperFrame
-points_proper half frame points low high scaled fine = boxes_proper frame (map (box_round half) points) (All-map IsProperFrame (box_round half) points (All-weaker IsScaledPoint (λ p. IsProperFrame (box_round half p)) (λ p both. box_proper half p low high both.0 both.1) points scaled)) fine
+pub points_proper : (half : ℤ) (frame : Option Frame) (points : List Point) → pos 0 ≤ℤ half → half ≤ℤ pos 536870912
+    → All (λ p. IsScaled p.x × IsScaled p.y) points → IfSome frame IsProperFrame → IfSome (round_points half frame points) IsProperFrame
+points_proper half frame points low high scaled fine =
+    boxes_proper frame (map (box_round half) points) (All-map IsProperFrame (box_round half) points
+    (All-weaker IsScaledPoint (λ p. IsProperFrame (box_round half p)) (λ p both. box_proper half p low high both.0 both.1) points scaled)) fine

@@ -1,5 +1,6 @@
 -- The frame of a drawing: the least box round its points, each widened by a half width.
-use Rattle.std.specs.Prelude.{List, [], ◌∷◌, ◌++◌, map, Option, Some, None, ℤ, ◌+ℤ◌, ◌-ℤ◌, ◌≤ℤ◌, ◌≤◌, pos, int_div, unsigned_abs}
+use Rattle.std.specs.Prelude.{List, [], ◌∷◌, ◌++◌, map, Option, Some, None, ℤ, ◌+ℤ◌, ◌-ℤ◌, ◌≤ℤ◌, ◌≤◌, pos, int_div}
+use Rattle.std.specs.Prelude.{unsigned_abs}
 use Rattle.std.specs.Int.{int_min, int_max}
 use Rattle.std.specs.List.{All, flat_map, fold}
 use Rattle.std.specs.Option.{option_to_list}
@@ -80,7 +81,8 @@ boxes_of half frame points = option_to_list frame ++ map (box_round half) points
 
 -- ---- how large a frame is
 
--- the sides are in order, and none is further out than the greatest number and the greatest half width: 1073741823 + 536870912
+-- the sides are in order, and none is further out than the greatest number and the greatest half width: 1073741823 +
+-- 536870912
 pub record IsProperFrame (f : Frame) : Type 0 where
   pub across : f.left ≤ℤ f.right
   pub upward : f.bottom ≤ℤ f.top

@@ -1,7 +1,8 @@
 //! The frame of a drawing.
 
 ghost use Rattle.std.specs.Prelude.{◌≡◌, ◌↔◌, [], pos, ◌≤ℤ◌, None, IsNone, Some, IfSome};
-ghost use Rattle.tk_item.specs.Frame.{half_width, points_of_path, points_of_piece, box_round, joined, with_box, round_points, boxes_of, IsLeastRound, IsProperFrame};
+ghost use Rattle.tk_item.specs.Frame.{half_width, points_of_path, points_of_piece, box_round, joined, with_box};
+ghost use Rattle.tk_item.specs.Frame.{round_points, boxes_of, IsLeastRound, IsProperFrame};
 
 use crate::{Frame, Point, Seg};
 use tk_num::Scaled;

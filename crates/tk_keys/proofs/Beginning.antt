@@ -35,7 +35,8 @@ module _ (P : ℕ → Type 0) where
 
   styles_at : (also : ℕ) → P 0 → (rows : List (List ℕ × List ℕ)) → AllAt (map (λ row. (tikz_path row.0, running (style_for also row.1))) rows)
   styles_at also p [] = tt
-  styles_at also p (r ∷ rows) = (record { run = also_at P also 0 p (tokens_of 0 r.1) (text_stands P 0 r.1 p); value = tt; need = tt }, styles_at also p rows)
+  styles_at also p (r ∷ rows) =
+      (record { run = also_at P also 0 p (tokens_of 0 r.1) (text_stands P 0 r.1 p); value = tt; need = tt }, styles_at also p rows)
 
   none_at : EntriesAt P finmap.empty
   none_at path e is = (let none : ◌≡◌ {A = Option Entry} None (Some e) = sym (get-empty (slice_cmp nat_cmp) path) ∙ is in absurd cc)
@@ -43,5 +44,7 @@ module _ (P : ℕ → Type 0) where
   pub first_env_at : (given : Given) → P 0 → EnvAt P (first_env given)
   first_env_at given p = record {
     bodies = (λ w m is. (let none : ◌≡◌ {A = Option Macro} None (Some m) = sym (get-empty nat_cmp w) ∙ is in absurd cc));
-    entries = set_at finmap.empty (initial_entries (also_word given)) none_at (joined (map (λ row. (tikz_path row.0, running (runs.Native row.1))) natives) (map (λ row. (tikz_path row.0, running (style_for (also_word given) row.1))) styles) (natives_at natives) (styles_at (also_word given) p styles));
+    entries = set_at finmap.empty (initial_entries (also_word given)) none_at (joined (map (λ row. (tikz_path row.0, running (runs.Native row.1)))
+        natives) (map (λ row. (tikz_path row.0, running (style_for (also_word given) row.1))) styles) (natives_at natives)
+        (styles_at (also_word given) p styles));
   }

@@ -22,7 +22,8 @@ use Rattle.tk_store.specs.Bodies.{body_of}
 use Rattle.tk_store.specs.Levels.{Macros, Keys}
 use Rattle.tk_expand.proofs.Places.{StandAt, Stands, BodiesAt, joined_at}
 use Rattle.tk_keytext.specs.declared.Handler.{Handler}
-use Rattle.tk_keytext.specs.declared.Handler.TheVariants.{Cd, Code, CodeTwo, Style, StyleTwo, AppendStyle, PrefixStyle, Default, ValueRequired, ValueForbidden, Initial, IsChoice, StoreIn, Try}
+use Rattle.tk_keytext.specs.declared.Handler.TheVariants.{Cd, Code, CodeTwo, Style, StyleTwo, AppendStyle, PrefixStyle, Default, ValueRequired}
+use Rattle.tk_keytext.specs.declared.Handler.TheVariants.{ValueForbidden, Initial, IsChoice, StoreIn, Try}
 use Rattle.tk_keytext.specs.Entries.{no_entry, with_run, coded, also_keys, styled, restyled, run_by, entry_by, edited}
 use Rattle.tk_keys.specs.Environment.{Env, with_macro, with_entry}
 use Rattle.tk_keys.proofs.Defining.{body_of_at}
@@ -53,7 +54,8 @@ module _ (P : ℕ → Type 0) where
     pub bodies : BodiesAt P env.macros
     pub entries : EntriesAt env.keys
 
-  pub bodies_with : (macros : Macros) (word : ℕ) (value : Macro) → BodiesAt P macros → StandAt P value.body → BodiesAt P (map.insert macros word value)
+  pub bodies_with : (macros : Macros) (word : ℕ) (value : Macro) → BodiesAt P macros → StandAt P value.body
+      → BodiesAt P (map.insert macros word value)
   bodies_with macros word value h k q m is = by (eq_by_cmp nat_cmp q word) (sym (get-insert nat_cmp_total macros word value q) ∙ is)
     where
       by : (b : Bool) → cond b (Some value) (map.get macros q) ≡ Some m → StandAt P m.body
@@ -99,9 +101,11 @@ module _ (P : ℕ → Type 0) where
     coded_at : (args : ℕ) (written : List Tok) → StandAt P written → Stands P RunAt (coded args written)
     coded_at args written h = then_at P (StandAt P) RunAt (body_of args written) _ (body_of_at P 0 0 args written h) (λ body k. k)
 
-    styled_at : (args : ℕ) (before list behind : List Tok) → StandAt P before → StandAt P list → StandAt P behind → Stands P RunAt (styled also at args before list behind)
+    styled_at : (args : ℕ) (before list behind : List Tok) → StandAt P before → StandAt P list → StandAt P behind
+        → Stands P RunAt (styled also at args before list behind)
     styled_at args before list behind h k m =
-        then_at P (StandAt P) RunAt (body_of args (also_keys also at list)) _ (body_of_at P 0 0 args (also_keys also at list) (also_at list k)) (λ style l. joined_at P (before ++ style) behind (joined_at P before style h l) m)
+        then_at P (StandAt P) RunAt (body_of args (also_keys also at list)) _ (body_of_at P 0 0 args (also_keys also at list) (also_at list k))
+            (λ style l. joined_at P (before ++ style) behind (joined_at P before style h l) m)
 
     appended_at : (old : Option Run) (list : List Tok) → IfSome old RunAt → StandAt P list → Stands P RunAt (restyled also at AppendStyle old list)
     appended_at None list h k = coded_at 1 (also_keys also at list) (also_at list k)
@@ -121,7 +125,8 @@ module _ (P : ℕ → Type 0) where
     stored_word None = p
     stored_word (Some w) = tt
 
-    run_by_at : (handler : Handler) (old : Option Run) (list : List Tok) → IfSome old RunAt → StandAt P list → Stands P RunAt (run_by also at handler old list)
+    run_by_at : (handler : Handler) (old : Option Run) (list : List Tok) → IfSome old RunAt → StandAt P list
+        → Stands P RunAt (run_by also at handler old list)
     run_by_at Code old list h k = coded_at 1 list k
     run_by_at CodeTwo old list h k = coded_at 2 list k
     run_by_at Style old list h k = coded_at 1 (also_keys also at list) (also_at list k)
@@ -142,7 +147,8 @@ module _ (P : ℕ → Type 0) where
         → Stands P EntryAt (or_fault value HandlerValue at >>= λ v. run_by also at handler old.run v >>= λ run. Ok (with_run run old))
     remade_at handler old None h k = p
     remade_at handler old (Some v) h k =
-        then_at P RunAt EntryAt (run_by also at handler old.run v) _ (run_by_at handler old.run v h.run k) (λ run l. record { run = l; value = h.value; need = h.need })
+        then_at P RunAt EntryAt (run_by also at handler old.run v) _ (run_by_at handler old.run v h.run k)
+            (λ run l. record { run = l; value = h.value; need = h.need })
 
     defaulted_at : (old : Entry) (value : Option (List Tok)) → EntryAt old → IfSome value (StandAt P)
         → Stands P EntryAt (or_fault value HandlerValue at >>= λ v. Ok (record old { need = needs.Default v }))
@@ -154,7 +160,8 @@ module _ (P : ℕ → Type 0) where
     initial_at old None h k = p
     initial_at old (Some v) h k = record { run = h.run; value = k; need = h.need }
 
-    entry_by_at : (handler : Handler) (old : Entry) (value : Option (List Tok)) → EntryAt old → IfSome value (StandAt P) → Stands P EntryAt (entry_by also at handler old value)
+    entry_by_at : (handler : Handler) (old : Entry) (value : Option (List Tok)) → EntryAt old → IfSome value (StandAt P)
+        → Stands P EntryAt (entry_by also at handler old value)
     entry_by_at ValueRequired old value h k = record { run = h.run; value = h.value; need = tt }
     entry_by_at ValueForbidden old value h k = record { run = h.run; value = h.value; need = tt }
     entry_by_at IsChoice old value h k = record { run = tt; value = h.value; need = h.need }
@@ -177,6 +184,7 @@ module _ (P : ℕ → Type 0) where
     or_nothing_at None h = nothing_at
     or_nothing_at (Some e) h = h
 
-    pub edited_at : (handler : Handler) (old : Option Entry) (value : Option (List Tok)) → IfSome old EntryAt → IfSome value (StandAt P) → Stands P EntryAt (edited also at handler old value)
+    pub edited_at : (handler : Handler) (old : Option Entry) (value : Option (List Tok)) → IfSome old EntryAt → IfSome value (StandAt P)
+        → Stands P EntryAt (edited also at handler old value)
     unfolding edited
     edited_at handler old value h k = entry_by_at handler (unwrap_or old no_entry) value (or_nothing_at old h) k

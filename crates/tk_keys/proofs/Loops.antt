@@ -16,7 +16,8 @@ use Rattle.tk_keytext.specs.Parts.{KeyPart}
 use Rattle.tk_keys.specs.declared.deeds.Deed as code
 use Rattle.tk_keys.specs.Given.{Given}
 use Rattle.tk_keys.specs.Keys.{part}
-use Rattle.tk_keys.specs.Settings.{Ending, Standing, standing, Set, set_behind, Runnable, set, set_alone, one_setting, standing_behind, Some_settings, set_or_group, setting_of, settings_from, part_run, parts, runs}
+use Rattle.tk_keys.specs.Settings.{Ending, Standing, standing, Set, set_behind, Runnable, set, set_alone, one_setting, standing_behind, Some_settings}
+use Rattle.tk_keys.specs.Settings.{set_or_group, setting_of, settings_from, part_run, parts, runs}
 use Rattle.tk_keys.specs.State.{State, env_of, given_of, stream_of, situation_of, standing_of, ending_of, Pays, Keeps, behind_set}
 use Rattle.tk_keys.specs.Views.{effect_of}
 use Rattle.tk_keys.proofs.DeedPlaces.{TextAt, EffectAt, part_at}
@@ -24,7 +25,8 @@ use Rattle.tk_keys.proofs.Ran.{Any, any_part, any_env, any_evaluates, run_is}
 use Rattle.tk_keys.proofs.Standing.{ok_at}
 
 pub keeps_then : (a b c : State) → Keeps a b → Keeps b c → Keeps a c
-keeps_then a b c f g = record { names = g.names ∙ f.names; font = g.font ∙ f.font; budget = g.budget ∙ f.budget; outer = g.outer ∙ f.outer; saved = g.saved ∙ f.saved; lists = g.lists ∙ f.lists }
+keeps_then a b c f g = record { names = g.names ∙ f.names; font = g.font ∙ f.font; budget = g.budget ∙ f.budget; outer = g.outer ∙ f.outer;
+    saved = g.saved ∙ f.saved; lists = g.lists ∙ f.lists }
 
 pub pays_keeps : (a b : State) → Pays a b → Keeps a b
 pays_keeps a b p = record {
@@ -51,8 +53,10 @@ module _ (old now : State) (kept : Keeps old now) (dir : List ℕ) (list : Unrea
   abbrev ahead : Answer Next
   ahead = next now.budget (env_of now).macros (stream_of now list)
 
-  starts : run_here ≡ (ahead >>= λ n. settings_from (given_at now) (runs (given_at now)) n.token (standing_behind (standing_of now dir list) n.stream))
-  starts = ap (λ (g : Given). runs g (Some_settings (standing_of now dir list))) (sym (given_same old now kept)) ∙ run_is (given_at now) (Some_settings (standing_of now dir list))
+  starts : run_here ≡ (ahead >>= λ n. settings_from (given_at now) (runs (given_at now)) n.token
+      (standing_behind (standing_of now dir list) n.stream))
+  starts = ap (λ (g : Given). runs g (Some_settings (standing_of now dir list))) (sym (given_same old now kept))
+      ∙ run_is (given_at now) (Some_settings (standing_of now dir list))
 
   pub next_fails : (e : Refusal) → Fails e ahead → Fails e run_here
   next_fails e h = fails_as e _ _ starts (fails_then e ahead _ h)
@@ -64,26 +68,34 @@ module _ (old now : State) (kept : Keeps old now) (dir : List ℕ) (list : Unrea
     pub text_ends : ahead ≡ Ok (taken None (stream_of paid behind)) → run_here ≡ Ok (ending_of paid dir)
     text_ends h =
         starts
-        ∙ then_is ahead (λ n. settings_from (given_at now) (runs (given_at now)) n.token (standing_behind (standing_of now dir list) n.stream)) (taken None (stream_of paid behind)) h
+        ∙ then_is ahead (λ n. settings_from (given_at now) (runs (given_at now)) n.token (standing_behind (standing_of now dir list) n.stream))
+            (taken None (stream_of paid behind)) h
         ∙ ap ended (sym pays)
 
     module _ (t : Tok) (h : ahead ≡ Ok (taken (Some t) (stream_of paid behind))) where
       abbrev set_from : State → Answer Standing
-      set_from s = set_or_group (given_at s) (runs (given_at s)) (setting_of s.names t.kind) t (standing (record { env = env_of s; units = paid.units }) dir behind)
+      set_from s = set_or_group (given_at s) (runs (given_at s)) (setting_of s.names t.kind) t
+          (standing (record { env = env_of s; units = paid.units }) dir behind)
 
       first_set : run_here ≡ (set_from paid >>= λ st. runs (given_at now) (Some_settings st))
       first_set =
           starts
-          ∙ then_is ahead (λ n. settings_from (given_at now) (runs (given_at now)) n.token (standing_behind (standing_of now dir list) n.stream)) (taken (Some t) (stream_of paid behind)) h
+          ∙ then_is ahead (λ n. settings_from (given_at now) (runs (given_at now)) n.token (standing_behind (standing_of now dir list) n.stream))
+              (taken (Some t) (stream_of paid behind)) h
           ∙ ap (λ (s : State). set_from s >>= λ st. runs (given_at now) (Some_settings st)) (sym pays)
 
-      pub text_goes_on : (new : State) (last : List ℕ) (rest : Unread) → set_or_group (given_at paid) (runs (given_at paid)) (setting_of paid.names t.kind) t (standing_of paid dir behind) ≡ Ok (standing_of new last rest) → run_here ≡ runs (given_at old) (Some_settings (standing_of new last rest))
+      pub text_goes_on : (new : State) (last : List ℕ) (rest : Unread)
+          → set_or_group (given_at paid) (runs (given_at paid)) (setting_of paid.names t.kind) t (standing_of paid dir behind)
+              ≡ Ok (standing_of new last rest)
+          → run_here ≡ runs (given_at old) (Some_settings (standing_of new last rest))
       text_goes_on new last rest is =
           first_set
           ∙ then_is (set_from paid) (λ st. runs (given_at now) (Some_settings st)) (standing_of new last rest) is
           ∙ ap (λ (g : Given). runs g (Some_settings (standing_of new last rest))) (given_same old now kept)
 
-      pub set_fails : (e : Refusal) → Fails e (set_or_group (given_at paid) (runs (given_at paid)) (setting_of paid.names t.kind) t (standing_of paid dir behind)) → Fails e run_here
+      pub set_fails : (e : Refusal)
+          → Fails e (set_or_group (given_at paid) (runs (given_at paid)) (setting_of paid.names t.kind) t (standing_of paid dir behind))
+          → Fails e run_here
       set_fails e k = fails_as e _ _ first_set (fails_then e (set_from paid) _ k)
 
 -- ---- parts
@@ -101,7 +113,8 @@ module _ (old now : State) (kept : Keeps old now) (dir : List ℕ) (ps qs : List
       ap (λ (g : Given). parts g (runs g) ps dir (situation_of now)) (sym (given_same old now kept))
       ∙ ap (λ (ps : List KeyPart). parts (given_at now) (runs (given_at now)) ps dir (situation_of now)) first
 
-  pub parts_go_on : (new : State) (last : List ℕ) → first_part ≡ Ok (ending_of new last) → parts_here ≡ parts (given_at old) (runs (given_at old)) qs last (situation_of new)
+  pub parts_go_on : (new : State) (last : List ℕ) → first_part ≡ Ok (ending_of new last)
+      → parts_here ≡ parts (given_at old) (runs (given_at old)) qs last (situation_of new)
   parts_go_on new last is =
       parts_start
       ∙ then_is first_part (λ after. parts (given_at now) (runs (given_at now)) qs after.dir after.now) (ending_of new last) is
@@ -110,15 +123,22 @@ module _ (old now : State) (kept : Keeps old now) (dir : List ℕ) (ps qs : List
   pub part_fails : (e : Refusal) → Fails e first_part → Fails e parts_here
   part_fails e h = fails_as e _ _ parts_start (fails_then e first_part _ h)
 
-pub parts_end : (old now : State) (dir : List ℕ) (ps : List KeyPart) → ps ≡ [] → parts (given_at old) (runs (given_at old)) ps dir (situation_of now) ≡ Ok (ending_of now dir)
+pub parts_end : (old now : State) (dir : List ℕ) (ps : List KeyPart) → ps ≡ []
+    → parts (given_at old) (runs (given_at old)) ps dir (situation_of now) ≡ Ok (ending_of now dir)
 unfolding parts
 parts_end old now dir ps none = ap (λ (ps : List KeyPart). parts (given_at old) (runs (given_at old)) ps dir (situation_of now)) none
 
 -- the text that a part leaves was paid for
-pub text_paid : (old new : State) (p : KeyPart) (dir last : List ℕ) (deed : code.Deed) (text : List Tok) → part (given_at old) p dir (situation_of old) ≡ Ok (effect_of deed new last) → deed.text ≡ Some text → (old.units + length text < new.units) × (new.units ≤ old.budget)
+pub text_paid : (old new : State) (p : KeyPart) (dir last : List ℕ) (deed : code.Deed) (text : List Tok)
+    → part (given_at old) p dir (situation_of old) ≡ Ok (effect_of deed new last) → deed.text ≡ Some text
+    → (old.units + length text < new.units) × (new.units ≤ old.budget)
 text_paid old new p dir last deed text is some =
-    let k : EffectAt Any (given_at old) (situation_of old) (effect_of deed new last) = known_of (EffectAt Any (given_at old) (situation_of old)) (part (given_at old) p dir (situation_of old)) (effect_of deed new last) is (ok_at Any (EffectAt Any (given_at old) (situation_of old)) (part (given_at old) p dir (situation_of old)) (part_at Any (given_at old) (any_evaluates (given_at old)) p dir (situation_of old) (any_part p) (any_env (env_of old)))) in
-    let t : TextAt Any old.budget old.units new.units (Some text) = subst (λ (o : Option (List Tok)). TextAt Any old.budget old.units new.units o) some k.text in
+    let k : EffectAt Any (given_at old) (situation_of old) (effect_of deed new last) = known_of (EffectAt Any (given_at old) (situation_of old))
+            (part (given_at old) p dir (situation_of old)) (effect_of deed new last) is (ok_at Any (EffectAt Any (given_at old) (situation_of old))
+            (part (given_at old) p dir (situation_of old)) (part_at Any (given_at old) (any_evaluates (given_at old)) p dir (situation_of old)
+            (any_part p) (any_env (env_of old)))) in
+    let t : TextAt Any old.budget old.units new.units (Some text) = subst (λ (o : Option (List Tok)). TextAt Any old.budget old.units new.units o)
+            some k.text in
     t.1
 
 -- ---- for each evaluation
@@ -143,8 +163,10 @@ module _ (ev : Evaluation) (is : IsEvaluation ev) (s : State) (t : Tok) (list : 
     abbrev set_here : Answer Standing
     set_here = set (given_at s) (runs (given_at s)) setting t.at (standing_of s [] list)
 
-    pub one_set : (new : State) (last : List ℕ) (rest : Unread) → set_here ≡ Ok (standing_of new last rest) → one_setting (given_of ev s) t (situation_of s) list ≡ Ok (Some (behind_set new rest))
-    one_set new last rest h = one_is (Some setting) begins ∙ then_is set_here (λ st. Ok (Some (set_behind st.now st.list))) (standing_of new last rest) h
+    pub one_set : (new : State) (last : List ℕ) (rest : Unread) → set_here ≡ Ok (standing_of new last rest)
+        → one_setting (given_of ev s) t (situation_of s) list ≡ Ok (Some (behind_set new rest))
+    one_set new last rest h =
+        one_is (Some setting) begins ∙ then_is set_here (λ st. Ok (Some (set_behind st.now st.list))) (standing_of new last rest) h
 
     pub one_fails : (e : Refusal) → Fails e set_here → Fails e (one_setting (given_of ev s) t (situation_of s) list)
     one_fails e h = fails_as e _ _ (one_is (Some setting) begins) (fails_then e set_here _ h)

@@ -1,5 +1,6 @@
 -- The parts of a key list stand at places of the list.
-use Rattle.std.specs.Prelude.{ℕ, zero, suc, ◌+◌, ◌-◌, ◌<◌, Bool, true, false, if◌then◌else◌, List, [], ◌∷◌, ◌++◌, length, take, unwrap_or, Option, Some, None, IfSome}
+use Rattle.std.specs.Prelude.{ℕ, zero, suc, ◌+◌, ◌-◌, ◌<◌, Bool, true, false, if◌then◌else◌, List, [], ◌∷◌, ◌++◌, length, take, unwrap_or, Option}
+use Rattle.std.specs.Prelude.{Some, None, IfSome}
 use Rattle.std.proofs.Common.{sym, subst, arith}
 use Rattle.std.specs.List.{AllByRecursion, prefix_len, suffix_len, list_all}
 use Rattle.tk_characters.specs.Characters.{comma, equals}
@@ -67,7 +68,8 @@ module _ (P : ℕ → Type 0) where
 
   part_of_at : (ts : List Tok) → StandAt P ts → AllParts (part_of ts)
   part_of_at [] h = tt
-  part_of_at (t ∷ ts) h = (part_by_at t.at (t ∷ ts) (before_char equals (t ∷ ts)) h.0 h (before_char_keeps (λ (t : Tok). P t.at) equals (t ∷ ts) h), tt)
+  part_of_at (t ∷ ts) h =
+      (part_by_at t.at (t ∷ ts) (before_char equals (t ∷ ts)) h.0 h (before_char_keeps (λ (t : Tok). P t.at) equals (t ∷ ts) h), tt)
 
   joined : (ps qs : List KeyPart) → AllParts ps → AllParts qs → AllParts (ps ++ qs)
   joined [] qs h k = k
@@ -77,7 +79,8 @@ module _ (P : ℕ → Type 0) where
   piece_at ts h None k = (h, tt)
   piece_at ts h (Some c) k = k
 
-  shorter : (t : Tok) (ts : List Tok) (o : Option Cut) → IfSome o (λ c. length c.front + length c.rest < length (t ∷ ts)) → length (unwrap_or o (cut (t ∷ ts) [])).rest < length (t ∷ ts)
+  shorter : (t : Tok) (ts : List Tok) (o : Option Cut) → IfSome o (λ c. length c.front + length c.rest < length (t ∷ ts))
+      → length (unwrap_or o (cut (t ∷ ts) [])).rest < length (t ∷ ts)
   shorter t ts None h = omega arith
   shorter t ts (Some c) h = omega arith
 
@@ -88,7 +91,8 @@ module _ (P : ℕ → Type 0) where
       let piece = first_piece (t ∷ ts) in
       let k = piece_at (t ∷ ts) h (before_char comma (t ∷ ts)) (before_char_keeps (λ (t : Tok). P t.at) comma (t ∷ ts) h) in
       let less = shorter t ts (before_char comma (t ∷ ts)) (before_char_shorter comma (t ∷ ts)) in
-      subst AllParts (sym (parts_is (t ∷ ts))) (joined (part_of (after_spaces piece.front)) (parts_of piece.rest) (part_of_at (after_spaces piece.front) (spaces_at piece.front k.0)) (by_length n piece.rest (omega arith) k.1))
+      subst AllParts (sym (parts_is (t ∷ ts))) (joined (part_of (after_spaces piece.front)) (parts_of piece.rest)
+          (part_of_at (after_spaces piece.front) (spaces_at piece.front k.0)) (by_length n piece.rest (omega arith) k.1))
 
   pub parts_at : (ts : List Tok) → StandAt P ts → AllParts (parts_of ts)
   parts_at ts h = by_length (suc (length ts)) ts (omega arith) h

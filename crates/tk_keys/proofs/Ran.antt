@@ -1,6 +1,7 @@
 -- Where runs end: units that don't fall, the same counts of levels and key lists, and tokens and faults at places of the
 -- list and of the bodies. And each run is its step.
-use Rattle.std.specs.Prelude.{◌≡◌, ℕ, ◌+◌, ◌-◌, ◌<◌, ◌≤◌, if◌then◌else◌, List, [], ◌∷◌, length, Option, Some, None, Ok, Err, IfErr, IfSome, option_to_list}
+use Rattle.std.specs.Prelude.{◌≡◌, ℕ, ◌+◌, ◌-◌, ◌<◌, ◌≤◌, if◌then◌else◌, List, [], ◌∷◌, length, Option, Some, None, Ok, Err, IfErr, IfSome}
+use Rattle.std.specs.Prelude.{option_to_list}
 use Rattle.std.proofs.Common.{refl, ap, ◌∙◌, arith}
 use Rattle.tk_token.specs.declared.Code.TheVariants.{Budget, NotASetting}
 use Rattle.tk_token.specs.declared.Fault.{Fault}
@@ -29,12 +30,15 @@ use Rattle.tk_keys.specs.declared.setting.Setting.TheVariants.{Nothing, Define, 
 use Rattle.tk_keys.specs.Environment.{Env, level, inner_list, Situation, with_paid}
 use Rattle.tk_keys.specs.Given.{Given}
 use Rattle.tk_keys.specs.Keys.{part}
-use Rattle.tk_keys.specs.Settings.{Ending, with_lists, Standing, standing, stream_here, standing_behind, argument, begins_at, dir_behind, Runnable, A_key_list, Some_settings, set_keys, set, group, set_or_group, setting_of, settings_from, all_settings, text_run, part_run, parts, key_list, run_step, work_of, runs, set_alone, one_setting}
+use Rattle.tk_keys.specs.Settings.{Ending, with_lists, Standing, standing, stream_here, standing_behind, argument, begins_at, dir_behind, Runnable}
+use Rattle.tk_keys.specs.Settings.{A_key_list, Some_settings, set_keys, set, group, set_or_group, setting_of, settings_from, all_settings, text_run}
+use Rattle.tk_keys.specs.Settings.{part_run, parts, key_list, run_step, work_of, runs, set_alone, one_setting}
 use Rattle.tk_keys.proofs.DeedPlaces.{EvaluatesAt, Later, TextAt, EffectAt, part_at}
 use Rattle.tk_keys.proofs.Entries.{RunAt, NeedAt, EntryAt, EnvAt}
 use Rattle.tk_keys.proofs.PartPlaces.{PartAt}
 use Rattle.tk_keys.proofs.Pinned.{IsPinned, is_its_step, is_never_stuck}
-use Rattle.tk_keys.proofs.Sets.{ListAt, SetAt, set_at, ArgumentAt, StandingAt, argument_stands, RunnableAt, EndingAt, set_or_group_at, part_run_at, step_at}
+use Rattle.tk_keys.proofs.Sets.{ListAt, SetAt, set_at, ArgumentAt, StandingAt, argument_stands, RunnableAt, EndingAt, set_or_group_at, part_run_at}
+use Rattle.tk_keys.proofs.Sets.{step_at}
 use Rattle.tk_keys.proofs.Standing.{then_at, ok_at, any_value}
 
 -- ---- at any place
@@ -88,13 +92,16 @@ any_runnable given evaluates (Some_settings st) = (any_env st.now.env, any_read 
 
 -- ---- at certain places
 
-pub runs_at : (P : ℕ → Type 0) (given : Given) (evaluates : EvaluatesAt P given) → P 0 → (job : Runnable) → RunnableAt P given evaluates job → Stands P (EndingAt P given evaluates job) (runs given job)
+pub runs_at : (P : ℕ → Type 0) (given : Given) (evaluates : EvaluatesAt P given) → P 0 → (job : Runnable) → RunnableAt P given evaluates job
+    → Stands P (EndingAt P given evaluates job) (runs given job)
 unfolding runs
 runs_at P given evaluates p =
-    kept (work_of given) (fault Budget 0) (run_step given) (λ job r. RunnableAt P given evaluates job → Stands P (EndingAt P given evaluates job) r) (λ job h. p) (λ f h job. step_at P given evaluates f h job)
+    kept (work_of given) (fault Budget 0) (run_step given) (λ job r. RunnableAt P given evaluates job → Stands P (EndingAt P given evaluates job) r)
+        (λ job h. p) (λ f h job. step_at P given evaluates f h job)
 
 -- at any place
-pub runs_stay : (given : Given) (job : Runnable) → RunnableAt Any given (any_evaluates given) job → Stands Any (EndingAt Any given (any_evaluates given) job) (runs given job)
+pub runs_stay : (given : Given) (job : Runnable) → RunnableAt Any given (any_evaluates given) job
+    → Stands Any (EndingAt Any given (any_evaluates given) job) (runs given job)
 runs_stay given = runs_at Any given (any_evaluates given) tt
 
 -- ---- a step asks for what has less work left
@@ -105,9 +112,11 @@ module _ (given : Given) (f : Runnable → Answer Ending) (n : ℕ) (same : (job
 
   set_keys_alike : (origin : Origin) (at : ℕ) (st : Standing) → Left st < n → set_keys given f origin at st ≡ set_keys given (runs given) origin at st
   set_keys_alike origin at st lt =
-      then_alike (ArgumentAt Any st.list) (argument at st.list) _ _ (ok_at Any (ArgumentAt Any st.list) (argument at st.list) (argument_stands Any at st.list tt (any_list st.list.rest))) (λ list k.
+      then_alike (ArgumentAt Any st.list) (argument at st.list) _ _ (ok_at Any (ArgumentAt Any st.list) (argument at st.list)
+          (argument_stands Any at st.list tt (any_list st.list.rest))) (λ list k.
       let short = k.short in
-      ap (λ (m : Answer Ending). m >>= λ after. Ok (standing after.now (dir_behind origin st.dir after.dir) list.list)) (same (A_key_list st.now (begins_at origin st.dir) list.value at) (omega arith)))
+      ap (λ (m : Answer Ending). m >>= λ after. Ok (standing after.now (dir_behind origin st.dir after.dir) list.list))
+          (same (A_key_list st.now (begins_at origin st.dir) list.value at) (omega arith)))
 
   set_alike : (setting : Setting) (at : ℕ) (st : Standing) → Left st < n → set given f setting at st ≡ set given (runs given) setting at st
   set_alike Nothing at st lt = refl
@@ -120,59 +129,75 @@ module _ (given : Given) (f : Runnable → Answer Ending) (n : ℕ) (same : (job
 
   group_alike : (at : ℕ) (st : Standing) → Left st < n → group given f at st ≡ group given (runs given) at st
   group_alike at st lt =
-      then_alike (λ (c : Cut). length c.front + length c.rest < length st.list.rest) (or_fault (group_of st.list.rest) NotASetting at) _ _ (or_fault_holds (λ (c : Cut). length c.front + length c.rest < length st.list.rest) (group_of st.list.rest) NotASetting at (group_shorter st.list.rest)) (λ c short.
+      then_alike (λ (c : Cut). length c.front + length c.rest < length st.list.rest) (or_fault (group_of st.list.rest) NotASetting at) _ _
+          (or_fault_holds (λ (c : Cut). length c.front + length c.rest < length st.list.rest) (group_of st.list.rest) NotASetting at
+          (group_shorter st.list.rest)) (λ c short.
       then_alike (λ _. Unit {0}) (level at st.now.env) _ _ (any_value (level at st.now.env)) (λ inside _.
-      ap (λ (m : Answer Ending). m >>= λ after. Ok (standing (with_paid st.now after.now.units) st.dir (unread c.rest st.list.end))) (same (Some_settings (standing (record st.now { env = inside }) st.dir (unread c.front (end_of at c.front)))) (omega arith))))
+      ap (λ (m : Answer Ending). m >>= λ after. Ok (standing (with_paid st.now after.now.units) st.dir (unread c.rest st.list.end)))
+          (same (Some_settings (standing (record st.now { env = inside }) st.dir (unread c.front (end_of at c.front)))) (omega arith))))
 
-  set_or_group_alike : (setting : Option Setting) (t : Tok) (st : Standing) → Left st < n → set_or_group given f setting t st ≡ set_or_group given (runs given) setting t st
+  set_or_group_alike : (setting : Option Setting) (t : Tok) (st : Standing) → Left st < n
+      → set_or_group given f setting t st ≡ set_or_group given (runs given) setting t st
   set_or_group_alike (Some setting) t st lt = set_alike setting t.at st lt
   set_or_group_alike None t st lt = ap (λ (m : Answer Standing). if is_open t.kind then m else fault NotASetting t.at) (group_alike t.at st lt)
 
-  settings_from_alike : (token : Option Tok) (st : Standing) → Left st + length (option_to_list token) ≤ n → settings_from given f token st ≡ settings_from given (runs given) token st
+  settings_from_alike : (token : Option Tok) (st : Standing) → Left st + length (option_to_list token) ≤ n
+      → settings_from given f token st ≡ settings_from given (runs given) token st
   settings_from_alike None st le = refl
   settings_from_alike (Some t) st le =
       let setting = setting_of given.names t.kind in
       ap (λ (m : Answer Standing). m >>= λ behind. f (Some_settings behind)) (set_or_group_alike setting t st (omega arith))
-      ∙ then_alike (StandingAt Any st) (set_or_group given (runs given) setting t st) _ _ (ok_at Any (StandingAt Any st) (set_or_group given (runs given) setting t st) (set_or_group_at Any given (any_evaluates given) (runs given) (runs_stay given) setting t st tt (any_env st.now.env) (any_read st.list))) (λ behind k.
+      ∙ then_alike (StandingAt Any st) (set_or_group given (runs given) setting t st) _ _ (ok_at Any (StandingAt Any st)
+          (set_or_group given (runs given) setting t st) (set_or_group_at Any given (any_evaluates given) (runs given) (runs_stay given) setting t st
+          tt (any_env st.now.env) (any_read st.list))) (λ behind k.
       let short = k.list.short in
       let spent = k.now.units in
       same (Some_settings behind) (omega arith))
 
   all_settings_alike : (st : Standing) → Left st ≤ n → all_settings given f st ≡ all_settings given (runs given) st
   all_settings_alike st le =
-      then_alike (Takes given.budget (stream_here st)) (next given.budget st.now.env.macros (stream_here st)) _ _ (next_takes given.budget st.now.env.macros (stream_here st)) (λ ahead k.
+      then_alike (Takes given.budget (stream_here st)) (next given.budget st.now.env.macros (stream_here st)) _ _
+          (next_takes given.budget st.now.env.macros (stream_here st)) (λ ahead k.
       let fell = k.work_falls in
       settings_from_alike ahead.token (standing_behind st ahead.stream) (omega arith))
 
-  text_run_alike : (at : ℕ) (text : Option (List Tok)) (dir : List ℕ) (s : Situation) (before : ℕ) → given.budget - before ≤ n → TextAt Any given.budget before s.units text → text_run given f at text dir s ≡ text_run given (runs given) at text dir s
+  text_run_alike : (at : ℕ) (text : Option (List Tok)) (dir : List ℕ) (s : Situation) (before : ℕ) → given.budget - before ≤ n
+      → TextAt Any given.budget before s.units text → text_run given f at text dir s ≡ text_run given (runs given) at text dir s
   text_run_alike at None dir s before le h = refl
   text_run_alike at (Some ts) dir s before le h =
       let paid = h.1.0 in
       let fits = h.1.1 in
       same (Some_settings (standing s dir (unread ts (end_of at ts)))) (omega arith)
 
-  part_run_alike : (p : KeyPart) (dir : List ℕ) (s : Situation) → given.budget - s.units ≤ n → part_run given f p dir s ≡ part_run given (runs given) p dir s
+  part_run_alike : (p : KeyPart) (dir : List ℕ) (s : Situation) → given.budget - s.units ≤ n
+      → part_run given f p dir s ≡ part_run given (runs given) p dir s
   part_run_alike p dir s le =
-      then_alike (EffectAt Any given s) (part given p dir s) _ _ (ok_at Any (EffectAt Any given s) (part given p dir s) (part_at Any given (any_evaluates given) p dir s (any_part p) (any_env s.env))) (λ effect k.
+      then_alike (EffectAt Any given s) (part given p dir s) _ _ (ok_at Any (EffectAt Any given s) (part given p dir s)
+          (part_at Any given (any_evaluates given) p dir s (any_part p) (any_env s.env))) (λ effect k.
       text_run_alike p.at effect.deed.text effect.dir effect.deed.now s.units le k.text)
 
-  parts_alike : (ps : List KeyPart) (dir : List ℕ) (s : Situation) → given.budget - s.units ≤ n → parts given f ps dir s ≡ parts given (runs given) ps dir s
+  parts_alike : (ps : List KeyPart) (dir : List ℕ) (s : Situation) → given.budget - s.units ≤ n
+      → parts given f ps dir s ≡ parts given (runs given) ps dir s
   unfolding parts
   parts_alike [] dir s le = refl
   parts_alike (p ∷ ps) dir s le =
       ap (λ (m : Answer Ending). m >>= λ after. parts given f ps after.dir after.now) (part_run_alike p dir s le)
-      ∙ then_alike (λ (e : Ending). Later Any s e.now) (part_run given (runs given) p dir s) _ _ (ok_at Any (λ (e : Ending). Later Any s e.now) (part_run given (runs given) p dir s) (part_run_at Any given (any_evaluates given) (runs given) (runs_stay given) p dir s (any_part p) (any_env s.env))) (λ after m.
+      ∙ then_alike (λ (e : Ending). Later Any s e.now) (part_run given (runs given) p dir s) _ _ (ok_at Any (λ (e : Ending). Later Any s e.now)
+          (part_run given (runs given) p dir s) (part_run_at Any given (any_evaluates given) (runs given) (runs_stay given) p dir s (any_part p)
+          (any_env s.env))) (λ after m.
       let more = m.units in
       parts_alike ps after.dir after.now (omega arith))
 
-  key_list_alike : (s : Situation) (dir : List ℕ) (list : List Tok) (at : ℕ) → given.budget - s.units ≤ n → key_list given f s dir list at ≡ key_list given (runs given) s dir list at
+  key_list_alike : (s : Situation) (dir : List ℕ) (list : List Tok) (at : ℕ) → given.budget - s.units ≤ n
+      → key_list given f s dir list at ≡ key_list given (runs given) s dir list at
   key_list_alike s dir list at le =
       then_alike (λ _. Unit {0}) (inner_list at s.env) _ _ (any_value (inner_list at s.env)) (λ inside _.
       ap (λ (m : Answer Ending). m >>= λ after. Ok (with_lists after s.env.lists)) (parts_alike (parts_of list) dir (record s { env = inside }) le))
 
 step_pinned : (given : Given) → IsPinned (work_of given) (fault Budget 0) (run_step given)
 unfolding runs
-step_pinned given f (A_key_list s dir list at) same = key_list_alike given f (work_of given (A_key_list s dir list at)) same s dir list at (omega arith)
+step_pinned given f (A_key_list s dir list at) same =
+    key_list_alike given f (work_of given (A_key_list s dir list at)) same s dir list at (omega arith)
 step_pinned given f (Some_settings st) same = all_settings_alike given f (work_of given (Some_settings st)) same st (omega arith)
 
 pub run_is : (given : Given) (job : Runnable) → runs given job ≡ run_step given (runs given) job
@@ -184,17 +209,21 @@ unfolding runs
 run_stuck given stuck job = is_never_stuck (work_of given) (fault Budget 0) (run_step given) (step_pinned given) stuck job
 
 -- a key list is its parts, and settings are the first of them and the rest
-pub list_is : (given : Given) (s : Situation) (dir : List ℕ) (list : List Tok) (at : ℕ) → runs given (A_key_list s dir list at) ≡ key_list given (runs given) s dir list at
+pub list_is : (given : Given) (s : Situation) (dir : List ℕ) (list : List Tok) (at : ℕ)
+    → runs given (A_key_list s dir list at) ≡ key_list given (runs given) s dir list at
 list_is given s dir list at = run_is given (A_key_list s dir list at)
 
 -- ---- one setting
 
-pub one_setting_at : (P : ℕ → Type 0) (given : Given) (evaluates : EvaluatesAt P given) → P 0 → (t : Tok) (s : Situation) (list : Unread) → P t.at → EnvAt P s.env → ListAt P list → Stands P (λ made. IfSome made (SetAt P s list)) (one_setting given t s list)
+pub one_setting_at : (P : ℕ → Type 0) (given : Given) (evaluates : EvaluatesAt P given) → P 0 → (t : Tok) (s : Situation) (list : Unread) → P t.at
+    → EnvAt P s.env → ListAt P list → Stands P (λ made. IfSome made (SetAt P s list)) (one_setting given t s list)
 unfolding one_setting
 one_setting_at P given evaluates first t s list p env h = by (setting_of given.names t.kind)
   where
     by : (setting : Option Setting) → Stands P (λ made. IfSome made (SetAt P s list)) (set_alone given setting t.at s list)
     by None = tt
     by (Some setting) =
-        then_at P (StandingAt P (standing s [] list)) (λ made. IfSome made (SetAt P s list)) (set given (runs given) setting t.at (standing s [] list)) _ (set_at P given evaluates (runs given) (runs_at P given evaluates first) setting t.at (standing s [] list) p env h) (λ st k.
+        then_at P (StandingAt P (standing s [] list)) (λ made. IfSome made (SetAt P s list)) (set given (runs given) setting t.at
+            (standing s [] list)) _ (set_at P given evaluates (runs given) (runs_at P given evaluates first) setting t.at (standing s [] list) p
+            env h) (λ st k.
         record { now = k.now; list = k.list })

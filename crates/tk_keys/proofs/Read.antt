@@ -20,16 +20,19 @@ use Rattle.tk_keys.specs.Settings.{ExpressionValue, expression_value}
 use Rattle.tk_keys.specs.Views.{expanded_text, value_behind, given_by, situation_by}
 
 -- where nothing in a list calls, it is its own expansion
-pub text_own : (budget : ℕ) (macros : Macros) (units at : ℕ) (list : List Tok) (text : Option (List ℕ)) → true ≡ is_expanded macros list → text ≡ text_in list → expanded_text budget macros units at list ≡ Ok (text, units)
+pub text_own : (budget : ℕ) (macros : Macros) (units at : ℕ) (list : List Tok) (text : Option (List ℕ)) → true ≡ is_expanded macros list
+    → text ≡ text_in list → expanded_text budget macros units at list ≡ Ok (text, units)
 text_own budget macros units at list text e same =
     let from : Stream = stream units (unread list at) in
-    then_is (full budget macros from) (λ (r : Stream). (let answer : Answer (Option (List ℕ) × ℕ) = Ok (text_in r.list.rest, r.units) in answer)) from (full_own budget macros from (sym e))
+    then_is (full budget macros from) (λ (r : Stream). (let answer : Answer (Option (List ℕ) × ℕ) = Ok (text_in r.list.rest, r.units) in answer)) from
+        (full_own budget macros from (sym e))
     ∙ ap (λ (o : Option (List ℕ)). (let answer : Answer (Option (List ℕ) × ℕ) = Ok (o, units) in answer)) (sym same)
 
 evaluated_is : (font : FontUnits) (at : ℕ) (toks : List Tok) (answer : Answer Value) → Evaluates font at toks answer → evaluated font at toks ≡ answer
 evaluated_is font at toks answer is = a_text_has_one_answer font at toks (evaluated font at toks) answer (evaluated_is_the_answer font at toks) is
 
-module _ (font : FontUnits) (budget : ℕ) (macros : Macros) (before at : ℕ) (list text toks : List Tok) (units : ℕ) (full_is : full budget macros (stream before (unread list at)) ≡ Ok (stream units (unread text at))) (same : toks ≡ text) where
+module _ (font : FontUnits) (budget : ℕ) (macros : Macros) (before at : ℕ) (list text toks : List Tok) (units : ℕ) (full_is : full budget macros
+    (stream before (unread list at)) ≡ Ok (stream units (unread text at))) (same : toks ≡ text) where
   abbrev found_in : Stream → Answer ExpressionValue
   found_in r = evaluated font at r.list.rest >>= λ found. Ok (value_behind found.number r.units)
 
@@ -38,8 +41,12 @@ module _ (font : FontUnits) (budget : ℕ) (macros : Macros) (before at : ℕ) (
       then_is (full budget macros (stream before (unread list at))) found_in (stream units (unread text at)) full_is
       ∙ ap (λ (ts : List Tok). found_in (stream units (unread ts at))) (sym same)
 
-  pub number_found : (found : Value) → Evaluates font at toks (Ok found) → expression_value (given_by font budget) at list (situation_by font macros before) ≡ Ok (value_behind found.number units)
-  number_found found is = number_from ∙ ap (λ (a : Answer Value). a >>= λ found. (let answer : Answer ExpressionValue = Ok (value_behind found.number units) in answer)) (evaluated_is font at toks (Ok found) is)
+  pub number_found : (found : Value) → Evaluates font at toks (Ok found)
+      → expression_value (given_by font budget) at list (situation_by font macros before) ≡ Ok (value_behind found.number units)
+  number_found found is = number_from ∙ ap (λ (a : Answer Value). a
+      >>= λ found. (let answer : Answer ExpressionValue = Ok (value_behind found.number units) in answer)) (evaluated_is font at toks (Ok found) is)
 
-  pub number_fails : (fault : Fault) → Evaluates font at toks (Err fault) → expression_value (given_by font budget) at list (situation_by font macros before) ≡ Err fault
-  number_fails fault is = number_from ∙ ap (λ (a : Answer Value). a >>= λ found. (let answer : Answer ExpressionValue = Ok (value_behind found.number units) in answer)) (evaluated_is font at toks (Err fault) is)
+  pub number_fails : (fault : Fault) → Evaluates font at toks (Err fault)
+      → expression_value (given_by font budget) at list (situation_by font macros before) ≡ Err fault
+  number_fails fault is = number_from ∙ ap (λ (a : Answer Value). a
+      >>= λ found. (let answer : Answer ExpressionValue = Ok (value_behind found.number units) in answer)) (evaluated_is font at toks (Err fault) is)

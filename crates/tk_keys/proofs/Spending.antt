@@ -15,9 +15,11 @@ module _ (budget : ℕ) (macros : Macros) where
   later n m (Ok s) le h = omega arith
   later n m (Err e) le h = tt
 
-  full_list_spends : (rec : Stream → Answer Stream) → ((s : Stream) → IfOk (rec s) (λ r. s.units ≤ r.units)) → (s : Stream) (ts : List Tok) → IfOk (full_list budget macros rec s ts) (λ r. s.units ≤ r.units)
+  full_list_spends : (rec : Stream → Answer Stream) → ((s : Stream) → IfOk (rec s) (λ r. s.units ≤ r.units)) → (s : Stream) (ts : List Tok)
+      → IfOk (full_list budget macros rec s ts) (λ r. s.units ≤ r.units)
   full_list_spends rec h s [] = omega arith
-  full_list_spends rec h s (t ∷ ts) = then_holds (λ (r : Stream). s.units ≤ r.units) (λ (r : Stream). s.units ≤ r.units) (rec (with_rest s ts)) _ (h (with_rest s ts)) (λ r k. k)
+  full_list_spends rec h s (t ∷ ts) =
+      then_holds (λ (r : Stream). s.units ≤ r.units) (λ (r : Stream). s.units ≤ r.units) (rec (with_rest s ts)) _ (h (with_rest s ts)) (λ r k. k)
 
   -- the units of a full expansion don't fall
   pub full_spends : (s : Stream) → IfOk (full budget macros s) (λ r. s.units ≤ r.units)

@@ -5,7 +5,8 @@ use Rattle.tk_token.specs.Answers.{Answer, ◌>>=◌, or_fault}
 use Rattle.tk_expand.proofs.Places.{Stands}
 
 module _ (P : ℕ → Type 0) where
-  pub then_at : {A B : Type 0} (Q : A → Type 0) (R : B → Type 0) (m : Answer A) (f : A → Answer B) → Stands P Q m → ((x : A) → Q x → Stands P R (f x)) → Stands P R (m >>= f)
+  pub then_at : {A B : Type 0} (Q : A → Type 0) (R : B → Type 0) (m : Answer A) (f : A → Answer B) → Stands P Q m → ((x : A) → Q x → Stands P R (f x))
+      → Stands P R (m >>= f)
   then_at Q R (Ok x) f h k = k x h
   then_at Q R (Err e) f h k = h
 

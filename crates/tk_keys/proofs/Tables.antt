@@ -24,7 +24,8 @@ pub none_set : (old : Levels) → HasEntries old old []
 none_set old = record { outer = refl; macros = refl; keys = refl }
 
 -- one more is set
-set_behind : (old now new : Levels) (es : List (List ℕ × Entry)) (e : List ℕ × Entry) → HasEntries old now es → SetsKey now new e.0 e.1 → HasEntries old new (es ++ e ∷ [])
+set_behind : (old now new : Levels) (es : List (List ℕ × Entry)) (e : List ℕ × Entry) → HasEntries old now es → SetsKey now new e.0 e.1
+    → HasEntries old new (es ++ e ∷ [])
 set_behind old now new es e h s = record {
   outer = ap (λ (l : Levels). l.outer) s.levels ∙ h.outer;
   macros = ap (λ (l : Levels). l.top.macros) s.levels ∙ h.macros;
@@ -35,7 +36,8 @@ set_behind old now new es e h s = record {
 
 module _ {A : Type 0} (f : A → List ℕ × Entry) (old : Levels) (rows : List A) where
   -- the next row of a table is set
-  pub next_set : (now new : Levels) (i : ℕ) (d : A) → i < length rows → HasEntries old now (map f (take i rows)) → SetsKey now new (f (get_or rows i d)).0 (f (get_or rows i d)).1 → HasEntries old new (map f (take (i + 1) rows))
+  pub next_set : (now new : Levels) (i : ℕ) (d : A) → i < length rows → HasEntries old now (map f (take i rows))
+      → SetsKey now new (f (get_or rows i d)).0 (f (get_or rows i d)).1 → HasEntries old new (map f (take (i + 1) rows))
   next_set now new i d l h s =
       let one : i + 1 ≡ suc i = omega arith in
       let more = ap (λ (n : ℕ). map f (take n rows)) one ∙ ap (map f) (take-suc rows i d l) ∙ map-append f (take i rows) (get_or rows i d ∷ []) in

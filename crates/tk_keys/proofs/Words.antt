@@ -31,7 +31,8 @@ still_there (w ∷ ws) us zero word e = e
 still_there (w ∷ ws) us (suc n) word e = still_there ws us n word e
 
 -- a word stays where it is
-word_stays_at_its_number : (old new : List (List ℕ)) (more word : List ℕ) (n : ℕ) → new ≡ with_word old more → slice_get old n ≡ Some word → slice_get new n ≡ Some word
+word_stays_at_its_number : (old new : List (List ℕ)) (more word : List ℕ) (n : ℕ) → new ≡ with_word old more → slice_get old n ≡ Some word
+    → slice_get new n ≡ Some word
 word_stays_at_its_number old new more word n is e =
     let x = with_word_extends old more in
     ap (λ (ws : List (List ℕ)). slice_get ws n) (is ∙ x.1) ∙ still_there old x.0 n word e
@@ -45,12 +46,14 @@ module _ (names : List (List ℕ)) (once : EachOnce names) where
   earlier n lt k less = at (bytes_eq (get_or names n []) (get_or names k [])) refl
     where
       at : (b : Bool) → bytes_eq (get_or names n []) (get_or names k []) ≡ b → b ≡ false
-      at true e = (let same : n ≡ k = same_place n k lt (omega (arith, lt, less)) ((bytes_decides (get_or names n []) (get_or names k [])).0 e) in absurd (omega (arith, same, less)))
+      at true e = (let same : n ≡ k = same_place n k lt (omega (arith, lt, less)) ((bytes_decides (get_or names n []) (get_or names k [])).0 e) in
+          absurd (omega (arith, same, less)))
       at false e = refl
 
   -- the number of the word at a place is that place
   pub number_back : (n : ℕ) → n < length names → word_number names (get_or names n []) ≡ n
-  number_back n lt = position_or_len_is (bytes_eq (get_or names n [])) names n [] (omega (arith, lt)) (earlier n lt) (λ _. (bytes_decides (get_or names n []) (get_or names n [])).1 refl)
+  number_back n lt = position_or_len_is (bytes_eq (get_or names n [])) names n [] (omega (arith, lt)) (earlier n lt)
+      (λ _. (bytes_decides (get_or names n []) (get_or names n [])).1 refl)
 
   number_of : (n : ℕ) (word : List ℕ) → slice_get names n ≡ Some word → n ≡ word_number names word
   number_of n word e =
@@ -69,7 +72,9 @@ pub numbers_made : (w1 w2 w3 : List (List ℕ)) (also key name : ℕ)
     → EachOnce w3
     → AreMade w3 (record { also = also; key = key; name = name })
 numbers_made w1 w2 w3 also key name a is2 k is3 n once = record {
-  also = number_of w3 once also (codes "pgfkeysalso") (word_stays_at_its_number w2 w3 (codes "pgfkeyscurrentname") (codes "pgfkeysalso") also is3 (word_stays_at_its_number w1 w2 (codes "pgfkeyscurrentkey") (codes "pgfkeysalso") also is2 a));
-  key = number_of w3 once key (codes "pgfkeyscurrentkey") (word_stays_at_its_number w2 w3 (codes "pgfkeyscurrentname") (codes "pgfkeyscurrentkey") key is3 k);
+  also = number_of w3 once also (codes "pgfkeysalso") (word_stays_at_its_number w2 w3 (codes "pgfkeyscurrentname") (codes "pgfkeysalso") also is3
+      (word_stays_at_its_number w1 w2 (codes "pgfkeyscurrentkey") (codes "pgfkeysalso") also is2 a));
+  key = number_of w3 once key (codes "pgfkeyscurrentkey") (word_stays_at_its_number w2 w3 (codes "pgfkeyscurrentname")
+      (codes "pgfkeyscurrentkey") key is3 k);
   name = number_of w3 once name (codes "pgfkeyscurrentname") n;
 }

@@ -51,8 +51,8 @@ abbrev pub with_entries : Keys → List (List ℕ × Entry) → Keys
 with_entries keys [] = keys
 with_entries keys (e ∷ entries) = with_entries (finmap.insert keys e.0 e.1) entries
 
--- no word has a macro, the keys are those that are there from the beginning, nothing is moved or set, no level is open, and
--- no key list runs
+-- no word has a macro, the keys are those that are there from the beginning, nothing is moved or set, no level is open,
+-- and no key list runs
 abbrev pub first_env : Given → Env
 first_env given = record {
   macros = finmap.empty;
@@ -64,8 +64,8 @@ first_env given = record {
 
 -- ---- levels
 
--- one more level is open, in which what is drawn has no name yet: at most 128 are, and another is the fault Levels at that
--- place
+-- one more level is open, in which what is drawn has no name yet: at most 128 are, and another is the fault Levels at
+-- that place
 abbrev pub level : ℕ → Env → Answer Env
 level at env =
     if nat_lt env.levels 128

@@ -1,5 +1,6 @@
 -- What a part of a key list does (the PGF manual, section "Key Management").
-use Rattle.std.specs.Prelude.{ℕ, ◌==◌, if◌then◌else◌, List, [], ◌∷◌, ◌++◌, unwrap_or, Option, Some, None, Ok, codes, option_map, option_and_then}
+use Rattle.std.specs.Prelude.{ℕ, ◌==◌, if◌then◌else◌, List, [], ◌∷◌, ◌++◌, unwrap_or, Option, Some, None, Ok, codes}
+use Rattle.std.specs.Prelude.{option_map, option_and_then}
 use Rattle.std.specs.FinMap as map
 use Rattle.tk_characters.specs.Characters.{slash}
 use Rattle.tk_token.specs.declared.Code.{Code}
@@ -74,7 +75,8 @@ two_arguments at value = do
   found ← arguments_of at 2 value
   all_taken at found.texts (after_spaces found.rest)
 
--- the arguments of code: two in its value, which has to be there, or else the value, which is empty where it isn't there
+-- the arguments of code: two in its value, which has to be there, or else the value, which is empty where it isn't
+-- there
 abbrev pub code_arguments : ℕ → ℕ → Option (List Tok) → Answer (List (List Tok))
 code_arguments at args value =
     if args == 2 then (or_fault value ValueRequired at >>= two_arguments at) else Ok (unwrap_or value [] ∷ [])
@@ -106,7 +108,8 @@ first_of None other = other
 
 -- the key that runs for one that isn't known: for `/p/q` it is `/p/.unknown`, or else `/handlers/.unknown`
 abbrev pub stand_in : Env → List ℕ → Option (List ℕ × Run)
-stand_in env path = first_of (runner env (unknown_below (parent_of path))) (runner env (unknown_below (codes "/handlers")))
+stand_in env path =
+    first_of (runner env (unknown_below (parent_of path))) (runner env (unknown_below (codes "/handlers")))
 
 -- what a key leaves with which the default path stays
 abbrev pub staying : List ℕ → Answer Deed → Answer Effect
@@ -167,8 +170,10 @@ module _ (given : Given) where
 
   -- ---- entries
 
-  -- an entry takes a value: its run does, or else its stored value becomes that one; where it has neither, it does nothing
-  abbrev pub use_by : ℕ → List ℕ → Entry → Option Run → Option (List Tok) → Option (List Tok) → Situation → Answer (Option Deed)
+  -- an entry takes a value: its run does, or else its stored value becomes that one; where it has neither, it does
+  -- nothing
+  abbrev pub use_by : ℕ → List ℕ → Entry → Option Run → Option (List Tok) → Option (List Tok) → Situation
+      → Answer (Option Deed)
   use_by at path entry (Some key) stored value s = do
     taken ← value_by at entry.need value
     deed ← run_key at path (name_in path) key taken s
@@ -244,7 +249,8 @@ module _ (given : Given) where
     used ← use_key at path value s
     used_or at used path value dir s
 
-  -- a part of a key list, with the default path before it: `b=1` where that is `/a` is the key `/a/b` with the value `1`
+  -- a part of a key list, with the default path before it: `b=1` where that is `/a` is the key `/a/b` with the value
+  -- `1`
   unfoldable pub part : KeyPart → List ℕ → Situation → Answer Effect
   part p dir s = do
     name ← expanded_name UnknownKey p.at p.name s

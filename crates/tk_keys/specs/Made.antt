@@ -1,5 +1,5 @@
--- Private: only private contracts use this. The numbers of the words that a run makes itself, and the keys that are there
--- from the beginning.
+-- Private: only private contracts use this. The numbers of the words that a run makes itself, and the keys that are
+-- there from the beginning.
 use Rattle.std.specs.Prelude.{◌≡◌, ℕ, List, [], codes}
 use Rattle.std.specs.FinMap as finmap
 use Rattle.tk_store.specs.declared.Entry.{Entry}

@@ -1,5 +1,6 @@
 -- Settings, which set something and draw nothing, and key lists, whose code is settings again.
-use Rattle.std.specs.Prelude.{ℕ, ◌+◌, ◌-◌, ◌==◌, if◌then◌else◌, List, [], ◌∷◌, length, Option, Some, None, Ok, ℤ, pos, ◌*ℤ◌, int_div, codes, unwrap_or, slice_get, option_and_then}
+use Rattle.std.specs.Prelude.{ℕ, ◌+◌, ◌-◌, ◌==◌, if◌then◌else◌, List, [], ◌∷◌, length, Option, Some, None, Ok, ℤ, pos}
+use Rattle.std.specs.Prelude.{◌*ℤ◌, int_div, codes, unwrap_or, slice_get, option_and_then}
 use Rattle.std.specs.FinMap as map
 use Rattle.std.specs.Map.{lookup}
 use Rattle.std.specs.Str.{bytes_eq}
@@ -29,7 +30,8 @@ use Rattle.tk_keytext.specs.Paths.{full_path}
 use Rattle.tk_keys.specs.declared.setting.Origin.{Origin}
 use Rattle.tk_keys.specs.declared.setting.Origin.TheVariants.{Root, Here, Tikz}
 use Rattle.tk_keys.specs.declared.setting.Setting.{Setting}
-use Rattle.tk_keys.specs.declared.setting.Setting.TheVariants.{Nothing, Define, Keys, SetValue, GetValue, SetNumber, SetWhole}
+use Rattle.tk_keys.specs.declared.setting.Setting.TheVariants.{Nothing, Define, Keys, SetValue, GetValue, SetNumber}
+use Rattle.tk_keys.specs.declared.setting.Setting.TheVariants.{SetWhole}
 use Rattle.tk_keys.specs.Environment.{Env, level, inner_list, with_macro, Situation, with_paid, with_text, with_key}
 use Rattle.tk_keys.specs.Given.{Given}
 use Rattle.tk_keys.specs.Keys.{part, expanded_name}
@@ -229,13 +231,14 @@ module _ (given : Given) where
     set SetNumber at st = with_dir st.dir (set_number pointed_text at st.now st.list)
     set SetWhole at st = with_dir st.dir (set_number whole_text at st.now st.list)
 
-    -- A group, whose `{` was taken: its contents are a list of their own, and only the units come back from it. So `\m` is
-    -- the same behind `{\def\m{2}}` as before it, and so is the default path behind `{\pgfkeysalso{/a/.cd}}`.
+    -- A group, whose `{` was taken: its contents are a list of their own, and only the units come back from it. So `\m`
+    -- is the same behind `{\def\m{2}}` as before it, and so is the default path behind `{\pgfkeysalso{/a/.cd}}`.
     abbrev pub group : ℕ → Standing → Answer Standing
     group at st = do
       contents ← or_fault (group_of st.list.rest) NotASetting at
       inside ← level at st.now.env
-      after ← runs (Some_settings (standing (record st.now { env = inside }) st.dir (unread contents.front (end_of at contents.front))))
+      after ← runs (Some_settings (standing (record st.now { env = inside }) st.dir
+          (unread contents.front (end_of at contents.front))))
       Ok (standing (with_paid st.now after.now.units) st.dir (unread contents.rest st.list.end))
 
     -- what begins with a token, which was taken: a setting or a group

@@ -1,6 +1,7 @@
 //! What keys do with values.
 
-ghost use Rattle.std.specs.Prelude.{◌≡◌, ◌+◌, ◌-◌, ◌≤◌, ◌<◌, ◌++◌, ◌∷◌, length, string_bytes, IfOk, IfSome, OnOk, IfNone, Ok, None, option_map, option_copied, unwrap_or, []};
+ghost use Rattle.std.specs.Prelude.{◌≡◌, ◌+◌, ◌-◌, ◌≤◌, ◌<◌, ◌++◌, ◌∷◌, length, string_bytes, IfOk, IfSome, OnOk};
+ghost use Rattle.std.specs.Prelude.{IfNone, Ok, None, option_map, option_copied, unwrap_or, []};
 ghost use Rattle.tk_token.specs.Refusals.{Gives};
 ghost use Rattle.tk_token.specs.Texts as texts;
 ghost use Rattle.tk_expand.specs.Expand.{Stream, full, stream};
@@ -38,8 +39,8 @@ pub(crate) fn done() -> Deed
 }
 
 impl State {
-    /// A name: it is expanded, and then of characters and Spaces alone. It takes the memory of an earlier one where there
-    /// is some, which `keep` gives back.
+    /// A name: it is expanded, and then of characters and Spaces alone. It takes the memory of an earlier one where
+    /// there is some, which `keep` gives back.
     pub(crate) fn expanded_name(
         &mut self,
         code: Code,
@@ -93,7 +94,8 @@ impl State {
 
     /// A key has an entry from there on.
     pub(crate) fn set_entry(&mut self, path: &str, entry: Entry) -> Result<(), AllocError>
-        ensures set { OnOk result (situation_of self.new ≡ environment.with_key (situation_of self.old) path.now entry) }
+        ensures set { OnOk result (situation_of self.new ≡ environment.with_key (situation_of self.old)
+            path.now entry) }
         ensures kept { OnOk result (Keeps self.old self.new) }
         ensures used { OnOk result (self.old.units ≤ self.new.units) }
     {
@@ -157,7 +159,8 @@ impl State {
         value: Option<&[Tok]>,
     ) -> Result<Deed, Refusal>
         ensures gives { Gives (λ deed. deed_of deed self.new) result
-            (keys.set_native (given_of evaluated self.old) at name.now key (option_copied value.entry) (situation_of self.old)) }
+            (keys.set_native (given_of evaluated self.old) at name.now key (option_copied value.entry)
+              (situation_of self.old)) }
         ensures kept { OnOk result (Keeps self.old self.new) }
         ensures used { OnOk result (self.old.units ≤ self.new.units) }
     {
@@ -183,7 +186,8 @@ impl State {
         value: Option<&[Tok]>,
     ) -> Result<Deed, Refusal>
         ensures gives { Gives (λ deed. deed_of deed self.new) result
-            (keys.plain_run (given_of evaluated self.old) at name.now run.now (option_copied value.entry) (situation_of self.old)) }
+            (keys.plain_run (given_of evaluated self.old) at name.now run.now (option_copied value.entry)
+              (situation_of self.old)) }
         ensures kept { OnOk result (Keeps self.old self.new) }
         ensures used { OnOk result (self.old.units ≤ self.new.units) }
     {
@@ -227,7 +231,8 @@ impl State {
         value: Option<&[Tok]>,
     ) -> Result<Deed, Refusal>
         ensures gives { Gives (λ deed. deed_of deed self.new) result
-            (keys.run_key (given_of evaluated self.old) at path.now name.now run.now (option_copied value.entry) (situation_of self.old)) }
+            (keys.run_key (given_of evaluated self.old) at path.now name.now run.now (option_copied value.entry)
+              (situation_of self.old)) }
         ensures kept { OnOk result (Keeps self.old self.new) }
         ensures used { OnOk result (self.old.units ≤ self.new.units) }
     {
@@ -249,7 +254,8 @@ impl State {
         value: Option<&[Tok]>,
     ) -> Result<Option<Deed>, Refusal>
         ensures gives { Gives (λ used. used_of used self.new) result
-            (keys.use_by (given_of evaluated self.old) at path.now entry None entry.value (option_copied value.entry) (situation_of self.old)) }
+            (keys.use_by (given_of evaluated self.old) at path.now entry None entry.value (option_copied value.entry)
+              (situation_of self.old)) }
         ensures none { IfOk result (λ used. IfNone used (self.new ≡ self.old)) }
         ensures kept { OnOk result (Keeps self.old self.new) }
         ensures used { OnOk result (self.old.units ≤ self.new.units) }
@@ -265,8 +271,8 @@ impl State {
         Ok(Some(done()))
     }
 
-    /// The key at a path takes a value, if it has a run or a stored value: its run does, or else its stored value becomes
-    /// that one.
+    /// The key at a path takes a value, if it has a run or a stored value: its run does, or else its stored value
+    /// becomes that one.
     pub(crate) fn use_key(
         &mut self,
         at: u32,
@@ -274,7 +280,8 @@ impl State {
         value: Option<&[Tok]>,
     ) -> Result<Option<Deed>, Refusal>
         ensures gives { Gives (λ used. used_of used self.new) result
-            (keys.use_key (given_of evaluated self.old) at path.now (option_copied value.entry) (situation_of self.old)) }
+            (keys.use_key (given_of evaluated self.old) at path.now (option_copied value.entry)
+              (situation_of self.old)) }
         ensures none { IfOk result (λ used. IfNone used (self.new ≡ self.old)) }
         ensures kept { OnOk result (Keeps self.old self.new) }
         ensures used { OnOk result (self.old.units ≤ self.new.units) }
@@ -313,7 +320,8 @@ fn graphics_set(
     graphics.set(alloc, key, name, value, font, at)
 }
 
-/// The text of a list, once it is expanded, in the memory of a string; other tokens than characters and Spaces have none.
+/// The text of a list, once it is expanded, in the memory of a string; other tokens than characters and Spaces have
+/// none.
 fn expanded_text(
     memory: String,
     at: u32,
@@ -370,7 +378,8 @@ fn code_text(
     paid_text(alloc, &arguments, body, at, units)
 }
 
-/// The arguments of code: two in its value, which has to be there, or else the value, which is empty where it isn't there.
+/// The arguments of code: two in its value, which has to be there, or else the value, which is empty where it isn't
+/// there.
 fn code_arguments(
     alloc: Global,
     at: u32,

@@ -31,7 +31,8 @@ fn set_natives(
     store: &mut Store,
     natives: &[(&str, Native)],
 ) -> Result<(), AllocError>
-    ensures { OnOk result (HasEntries store.old store.new (map (λ row. (environment.tikz_path row.0.now, environment.running (runs.Native row.1))) natives.now)) }
+    ensures { OnOk result (HasEntries store.old store.new
+        (map (λ row. (environment.tikz_path row.0.now, environment.running (runs.Native row.1))) natives.now)) }
 {
     for (name, key) in natives {
         set_below(alloc, store, name, Run::Native(*key))?;
@@ -46,7 +47,9 @@ fn set_styles(
     also: u32,
     styles: &[(&str, &str)],
 ) -> Result<(), AllocError>
-    ensures { OnOk result (HasEntries store.old store.new (map (λ row. (environment.tikz_path row.0.now, environment.running (environment.style_for also row.1.now))) styles.now)) }
+    ensures { OnOk result (HasEntries store.old store.new
+        (map (λ row. (environment.tikz_path row.0.now, environment.running (environment.style_for also row.1.now)))
+        styles.now)) }
 {
     for (name, list) in styles {
         set_below(alloc, store, name, style_for(alloc, also, list)?)?;

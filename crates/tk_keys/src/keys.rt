@@ -1,6 +1,7 @@
 //! What a part of a key list does.
 
-ghost use Rattle.std.specs.Prelude.{◌≡◌, ◌≤◌, ◌++◌, ◌∷◌, string_bytes, IfOk, OnOk, MatchResult, Ok, Err, option_map, option_copied};
+ghost use Rattle.std.specs.Prelude.{◌≡◌, ◌≤◌, ◌++◌, ◌∷◌, string_bytes, IfOk, OnOk, MatchResult, Ok, Err, option_map};
+ghost use Rattle.std.specs.Prelude.{option_copied};
 ghost use Rattle.tk_token.specs.Refusals.{Gives};
 ghost use Rattle.tk_expr.specs.Evaluated.{evaluated};
 ghost use Rattle.tk_keytext.specs.KeyParts.{key_part};
@@ -34,7 +35,8 @@ impl State {
         value: Option<&[Tok]>,
     ) -> Result<Deed, Refusal>
         ensures gives { Gives (λ deed. deed_of deed self.new) result
-            (keys.edit (given_of evaluated self.old) at handler path.now (option_copied value.entry) (situation_of self.old)) }
+            (keys.edit (given_of evaluated self.old) at handler path.now (option_copied value.entry)
+              (situation_of self.old)) }
         ensures kept { OnOk result (Keeps self.old self.new) }
         ensures used { OnOk result (self.old.units ≤ self.new.units) }
     {
@@ -48,8 +50,10 @@ impl State {
     /// Pays for an entry that was edited: a style that grows costs one unit more than its new code has tokens.
     fn pay_for_edit(&mut self, at: u32, handler: Handler, entry: &Entry) -> Result<(), Fault>
         ensures gives { MatchResult result
-            (λ _. keys.edit_paid (given_of evaluated self.old) at handler entry.now.run self.old.units ≡ Ok self.new.units)
-            (λ fault. keys.edit_paid (given_of evaluated self.old) at handler entry.now.run self.old.units ≡ Err fault) }
+            (λ _. keys.edit_paid (given_of evaluated self.old) at handler entry.now.run self.old.units
+              ≡ Ok self.new.units)
+            (λ fault. keys.edit_paid (given_of evaluated self.old) at handler entry.now.run self.old.units
+              ≡ Err fault) }
         ensures pays { self.new ≡ record self.old { units = self.new.units } }
         ensures used { self.old.units ≤ self.new.units }
     {
@@ -71,7 +75,8 @@ impl State {
         dir: &mut Dir,
     ) -> Result<Deed, Refusal>
         ensures gives { Gives (λ deed. effect_of deed self.new dir.new) result
-            (keys.handle (given_of evaluated self.old) at handler path.now (option_copied value.entry) dir.old (situation_of self.old)) }
+            (keys.handle (given_of evaluated self.old) at handler path.now (option_copied value.entry) dir.old
+              (situation_of self.old)) }
         ensures kept { OnOk result (Keeps self.old self.new) }
         ensures used { OnOk result (self.old.units ≤ self.new.units) }
     {
@@ -124,7 +129,8 @@ impl State {
     /// A key that nothing is known of: another runs for it, which can ask for its name.
     fn unknown(&mut self, at: u32, path: &str, value: Option<&[Tok]>) -> Result<Deed, Refusal>
         ensures gives { Gives (λ deed. deed_of deed self.new) result
-            (keys.unknown (given_of evaluated self.old) at path.now (option_copied value.entry) (situation_of self.old)) }
+            (keys.unknown (given_of evaluated self.old) at path.now (option_copied value.entry)
+              (situation_of self.old)) }
         ensures kept { OnOk result (Keeps self.old self.new) }
         ensures used { OnOk result (self.old.units ≤ self.new.units) }
     {
@@ -144,7 +150,8 @@ impl State {
         dir: &mut Dir,
     ) -> Result<Deed, Refusal>
         ensures gives { Gives (λ deed. effect_of deed self.new dir.new) result
-            (keys.handle_or_unknown (given_of evaluated self.old) at (handlers.handler_of (paths.name_in path.now)) path.now (option_copied value.entry) dir.old (situation_of self.old)) }
+            (keys.handle_or_unknown (given_of evaluated self.old) at (handlers.handler_of (paths.name_in path.now))
+              path.now (option_copied value.entry) dir.old (situation_of self.old)) }
         ensures kept { OnOk result (Keeps self.old self.new) }
         ensures used { OnOk result (self.old.units ≤ self.new.units) }
     {
@@ -163,7 +170,8 @@ impl State {
         dir: &mut Dir,
     ) -> Result<Deed, Refusal>
         ensures gives { Gives (λ deed. effect_of deed self.new dir.new) result
-            (keys.key (given_of evaluated self.old) at path.now (option_copied value.entry) dir.old (situation_of self.old)) }
+            (keys.key (given_of evaluated self.old) at path.now (option_copied value.entry) dir.old
+              (situation_of self.old)) }
         ensures kept { OnOk result (Keeps self.old self.new) }
         ensures used { OnOk result (self.old.units ≤ self.new.units) }
     {

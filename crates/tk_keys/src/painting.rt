@@ -21,8 +21,8 @@ impl State {
     /// Runs the key list that is written so, whose tokens all stand at `at`, as its command does, with the default path
     /// /tikz; gives the default path that it ends with.
     ///
-    /// It runs as `run_list` runs those tokens, with the same faults. `draw`, `fill` and `draw,fill` take no memory while
-    /// they are the keys that are there from the beginning.
+    /// It runs as `run_list` runs those tokens, with the same faults. `draw`, `fill` and `draw,fill` take no memory
+    /// while they are the keys that are there from the beginning.
     pub fn run_written(&mut self, text: &str, at: u32) -> Result<Dir, Refusal>
         ensures gives { (ev : Evaluation) → IsEvaluation ev → Gives (λ last. ending_of self.new last) result
             (runs (given_of ev self.old)

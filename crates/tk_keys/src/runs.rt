@@ -26,9 +26,9 @@ pub(crate) const MOST_LISTS: usize = 256;
 impl State {
     /// Runs a key list with a default path, whose command stands at `at`; gives the default path that it ends with.
     ///
-    /// A part runs its key, or stores a value, or is handled, or another key runs for it; its code runs as settings do, and
-    /// is the text that stood in the key when the part began, whatever it sets. The fault `KeyDepth` stands at `at`, where
-    /// 256 key lists run; those of a part stand at the part, and those of its code in the code.
+    /// A part runs its key, or stores a value, or is handled, or another key runs for it; its code runs as settings do,
+    /// and is the text that stood in the key when the part began, whatever it sets. The fault `KeyDepth` stands at
+    /// `at`, where 256 key lists run; those of a part stand at the part, and those of its code in the code.
     pub fn run_list(&mut self, dir: Dir, list: &[Tok], at: u32) -> Result<Dir, Refusal>
         ensures gives { (ev : Evaluation) → IsEvaluation ev → Gives (λ last. ending_of self.new last) result
             (runs (given_of ev self.old) (A_key_list (situation_of self.old) dir list.now at)) }
@@ -39,8 +39,8 @@ impl State {
         Ok(dir)
     }
 
-    /// Runs settings with a default path, whose list runs out at `at`; gives the default path that they end with, which only
-    /// `\pgfkeysalso` changes.
+    /// Runs settings with a default path, whose list runs out at `at`; gives the default path that they end with, which
+    /// only `\pgfkeysalso` changes.
     ///
     /// `NotASetting` stands at a token that begins no setting.
     pub fn run_settings(&mut self, dir: Dir, list: &[Tok], at: u32) -> Result<Dir, Refusal>
@@ -54,8 +54,8 @@ impl State {
         Ok(dir)
     }
 
-    /// Runs the one setting, other than a group, that begins with a token which was taken, and takes its further tokens;
-    /// tells whether one begins there. The default path is the root.
+    /// Runs the one setting, other than a group, that begins with a token which was taken, and takes its further
+    /// tokens; tells whether one begins there. The default path is the root.
     pub fn run_one(&mut self, first: Tok, input: &mut Input) -> Result<bool, Refusal>
         ensures gives { (ev : Evaluation) → IsEvaluation ev → Gives (λ set. set_of set self.new input.new) result
             (one_setting (given_of ev self.old) first (situation_of self.old) input.old) }
@@ -93,7 +93,8 @@ impl State {
     #[cycle(run)]
     fn run_parts(&mut self, dir: &mut Dir, list: &[Tok]) -> Result<(), Refusal>
         ensures gives { Gives (λ _. ending_of self.new dir.new) result
-            (settings.parts (given_of evaluated self.old) (runs (given_of evaluated self.old)) (parts_of list.now) dir.old (situation_of self.old)) }
+            (settings.parts (given_of evaluated self.old) (runs (given_of evaluated self.old)) (parts_of list.now)
+              dir.old (situation_of self.old)) }
         ensures kept { OnOk result (Keeps self.old self.new) }
         ensures used { OnOk result (self.old.units ≤ self.new.units) }
     {
@@ -108,7 +109,8 @@ impl State {
     #[cycle(run)]
     fn run_part(&mut self, part: &Part, dir: &mut Dir) -> Result<(), Refusal>
         ensures gives { Gives (λ _. ending_of self.new dir.new) result
-            (settings.part_run (given_of evaluated self.old) (runs (given_of evaluated self.old)) (key_part part.now) dir.old (situation_of self.old)) }
+            (settings.part_run (given_of evaluated self.old) (runs (given_of evaluated self.old)) (key_part part.now)
+              dir.old (situation_of self.old)) }
         ensures kept { OnOk result (Keeps self.old self.new) }
         ensures used { OnOk result (self.old.units ≤ self.new.units) }
     {
@@ -141,7 +143,8 @@ impl State {
     #[cycle(run)]
     fn set_or_group(&mut self, first: Tok, dir: &mut Dir, input: &mut Input) -> Result<(), Refusal>
         ensures gives { Gives (λ _. standing_of self.new dir.new input.new) result
-            (settings.set_or_group (given_of evaluated self.old) (runs (given_of evaluated self.old)) (setting_of self.old.names first.kind) first (standing_of self.old dir.old input.old)) }
+            (settings.set_or_group (given_of evaluated self.old) (runs (given_of evaluated self.old))
+              (setting_of self.old.names first.kind) first (standing_of self.old dir.old input.old)) }
         ensures kept { OnOk result (Keeps self.old self.new) }
         ensures used { OnOk result (self.old.units ≤ self.new.units) }
         ensures end { OnOk result (input.new.end ≡ input.old.end) }
@@ -165,7 +168,8 @@ impl State {
         input: &mut Input,
     ) -> Result<(), Refusal>
         ensures gives { Gives (λ _. standing_of self.new dir.new input.new) result
-            (settings.set (given_of evaluated self.old) (runs (given_of evaluated self.old)) setting at (standing_of self.old dir.old input.old)) }
+            (settings.set (given_of evaluated self.old) (runs (given_of evaluated self.old)) setting at
+              (standing_of self.old dir.old input.old)) }
         ensures kept { OnOk result (Keeps self.old self.new) }
         ensures used { OnOk result (self.old.units ≤ self.new.units) }
         ensures end { OnOk result (input.new.end ≡ input.old.end) }
@@ -193,7 +197,8 @@ impl State {
         input: &mut Input,
     ) -> Result<(), Refusal>
         ensures gives { Gives (λ _. standing_of self.new dir.new input.new) result
-            (settings.set_keys (given_of evaluated self.old) (runs (given_of evaluated self.old)) origin at (standing_of self.old dir.old input.old)) }
+            (settings.set_keys (given_of evaluated self.old) (runs (given_of evaluated self.old)) origin at
+              (standing_of self.old dir.old input.old)) }
         ensures kept { OnOk result (Keeps self.old self.new) }
         ensures used { OnOk result (self.old.units ≤ self.new.units) }
         ensures end { OnOk result (input.new.end ≡ input.old.end) }
@@ -214,7 +219,8 @@ impl State {
     #[cycle(run)]
     fn group(&mut self, at: u32, dir: &mut Dir, input: &mut Input) -> Result<(), Refusal>
         ensures gives { Gives (λ _. standing_of self.new dir.new input.new) result
-            (settings.group (given_of evaluated self.old) (runs (given_of evaluated self.old)) at (standing_of self.old dir.old input.old)) }
+            (settings.group (given_of evaluated self.old) (runs (given_of evaluated self.old)) at
+              (standing_of self.old dir.old input.old)) }
         ensures kept { OnOk result (Keeps self.old self.new) }
         ensures used { OnOk result (self.old.units ≤ self.new.units) }
         ensures end { OnOk result (input.new.end ≡ input.old.end) }

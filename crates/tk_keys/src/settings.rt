@@ -1,6 +1,7 @@
 //! Settings that run nothing.
 
-ghost use Rattle.std.specs.Prelude.{◌≡◌, ◌+◌, ◌-◌, ◌≤◌, ◌<◌, length, string_bytes, IfOk, OnOk, Ok, Some, option_map, option_copied, unwrap_or};
+ghost use Rattle.std.specs.Prelude.{◌≡◌, ◌+◌, ◌-◌, ◌≤◌, ◌<◌, length, string_bytes, IfOk, OnOk, Ok, Some, option_map};
+ghost use Rattle.std.specs.Prelude.{option_copied, unwrap_or};
 ghost use Rattle.std.specs.FinMap as map;
 ghost use Rattle.tk_num.specs.Text.{pointed_text};
 ghost use Rattle.tk_token.specs.Refusals.{Gives};
@@ -195,7 +196,8 @@ fn value_of_text(
     units: &mut Units,
 ) -> Result<Scaled, Refusal>
     ensures gives { Gives (λ number. value_behind number units.new.used) result
-        (settings.expression_value (given_by font units.old.budget) at text.items (situation_by font store.now.top.macros units.old.used)) }
+        (settings.expression_value (given_by font units.old.budget) at text.items
+          (situation_by font store.now.top.macros units.old.used)) }
     ensures budget { units.new.budget ≡ units.old.budget }
     ensures used { OnOk result (units.old.used ≤ units.new.used) }
 {

@@ -1,6 +1,7 @@
 //! The state of a run.
 
-ghost use Rattle.std.specs.Prelude.{◌≡◌, ℕ, [], ◌∷◌, ◌+◌, ◌-◌, ◌<◌, ◌≤◌, length, IfNone, option_to_list, IfOk, OnOk, OnErr, MatchResult, Ok, Err};
+ghost use Rattle.std.specs.Prelude.{◌≡◌, ℕ, [], ◌∷◌, ◌+◌, ◌-◌, ◌<◌, ◌≤◌, length, IfNone, option_to_list, IfOk, OnOk};
+ghost use Rattle.std.specs.Prelude.{OnErr, MatchResult, Ok, Err};
 ghost use Rattle.tk_token.specs.Refusals.{Gives};
 ghost use Rattle.tk_store.specs.Levels.{opened};
 ghost use Rattle.tk_token.specs.Kinds.{is_char};
@@ -83,7 +84,8 @@ impl Model for State {
       units = s.units.used;
     } };
 
-    ghost invariant = { λ s. AreMade s.names s.made × (length s.saved.items ≡ length s.store.outer) × (128 ≤ vec_capacity s.saved) };
+    ghost invariant = { λ s. AreMade s.names s.made × (length s.saved.items ≡ length s.store.outer)
+      × (128 ≤ vec_capacity s.saved) };
 }
 
 impl State {
@@ -181,7 +183,8 @@ impl State {
         ensures none { IfOk result (λ tok. IfNone tok (input.new.rest ≡ [])) }
         ensures end { OnOk result (input.new.end ≡ input.old.end) }
         ensures used { OnOk result (self.old.units ≤ self.new.units) }
-        ensures work { IfOk result (λ tok. (self.new.budget - self.new.units) + length input.new.rest + length (option_to_list tok)
+        ensures work { IfOk result (λ tok. (self.new.budget - self.new.units) + length input.new.rest
+            + length (option_to_list tok)
             ≤ (self.old.budget - self.old.units) + length input.old.rest) }
     {
         input.next(&self.store, &mut self.units)
@@ -230,13 +233,14 @@ impl State {
         Ok(())
     }
 
-    /// Closes the last level: what was set at it ends. This takes no memory, and looks only at what was set: a step is one
-    /// setting that is undone.
+    /// Closes the last level: what was set at it ends. This takes no memory, and looks only at what was set: a step is
+    /// one setting that is undone.
     pub fn close<L: Ledger>(&mut self, steps: &mut Steps<L>)
         requires { 0 < length self.old.levels.outer }
         ensures levels { self.old.levels.outer ≡ self.new.levels.top ∷ self.new.levels.outer }
         ensures saved { self.old.saved ≡ self.new.graphics ∷ self.new.saved }
-        ensures kept { self.new ≡ record self.old { levels = self.new.levels; graphics = self.new.graphics; saved = self.new.saved } }
+        ensures kept { self.new ≡ record self.old { levels = self.new.levels; graphics = self.new.graphics;
+            saved = self.new.saved } }
         ensures low { steps.old ≤ steps.new }
         ensures high { steps.new ≤ steps.old + self.old.levels.top.settings }
     {
@@ -251,7 +255,8 @@ impl State {
         requires { 0 < length self.old.levels.outer }
         ensures levels { self.old.levels.outer ≡ self.new.levels.top ∷ self.new.levels.outer }
         ensures saved { self.old.saved ≡ self.new.graphics ∷ self.new.saved }
-        ensures kept { self.new ≡ record self.old { levels = self.new.levels; graphics = self.new.graphics; saved = self.new.saved } }
+        ensures kept { self.new ≡ record self.old { levels = self.new.levels; graphics = self.new.graphics;
+            saved = self.new.saved } }
     {
         self.store.close_uncounted();
         if let Some(graphics) = self.saved.pop() {
@@ -262,7 +267,8 @@ impl State {
     /// Sets whether what follows is drawn and filled. This takes no memory.
     pub fn set_paint(&mut self, draw: bool, fill: bool)
         ensures { self.new ≡ record self.old {
-          graphics = record self.old.graphics { look = record self.old.graphics.look { draw_on = draw; fill_on = fill } };
+          graphics = record self.old.graphics { look = record self.old.graphics.look { draw_on = draw;
+            fill_on = fill } };
         } }
     {
         self.graphics.look.draw_on = draw;

@@ -15,11 +15,13 @@ use Rattle.tk_keytext.specs.Parts.{KeyPart, part_of, first_piece, parts_step, pa
 -- what is left behind it is shorter
 pub found_shorter : (c : ℕ) (ts front rest : List Tok) → before_char c ts ≡ Some (cut front rest) → length rest < length ts
 found_shorter c ts front rest found =
-    let h : length front + length rest < length ts = subst (λ (o : Option Cut). IfSome o (λ c. length c.front + length c.rest < length ts)) found (before_char_shorter c ts) in omega arith
+    let h : length front + length rest < length ts = subst (λ (o : Option Cut). IfSome o (λ c. length c.front + length c.rest < length ts)) found
+            (before_char_shorter c ts) in omega arith
 
 -- ---- the first piece
 
-first_shorter : (t : Tok) (ts : List Tok) (o : Option Cut) → IfSome o (λ c. length c.front + length c.rest < length (t ∷ ts)) → length (unwrap_or o (cut (t ∷ ts) [])).rest < length (t ∷ ts)
+first_shorter : (t : Tok) (ts : List Tok) (o : Option Cut) → IfSome o (λ c. length c.front + length c.rest < length (t ∷ ts))
+    → length (unwrap_or o (cut (t ∷ ts) [])).rest < length (t ∷ ts)
 first_shorter t ts None h = omega arith
 first_shorter t ts (Some c) h = omega arith
 

@@ -1,5 +1,6 @@
 -- The last part of a path, by what a search for its last `/` finds.
-use Rattle.std.proofs.Common.{◌≡◌, ◌≢◌, ℕ, ◌+◌, ◌-◌, ◌<◌, ◌≤◌, ◌==◌, true, false, not, List, length, get_or, take, drop, Some, None, sym, ap, ◌∙◌, arith, length-drop}
+use Rattle.std.proofs.Common.{◌≡◌, ◌≢◌, ℕ, ◌+◌, ◌-◌, ◌<◌, ◌≤◌, ◌==◌, true, false, not, List, length, get_or, take, drop, Some, None, sym, ap, ◌∙◌}
+use Rattle.std.proofs.Common.{arith, length-drop}
 use Rattle.std.proofs.Math.Seq.{get_or-drop}
 use Rattle.std.specs.Str.Pattern.{RFindsChar}
 use Rattle.std.proofs.lemmas.Bool.Decides.{nat_tests}
@@ -14,10 +15,12 @@ a_slash : (c : ℕ) → c ≡ 47 → not (c == 47) ≡ false
 a_slash c h = grind (arith, nat_tests)
 
 module _ (path : List ℕ) where
-  part_from : (start : ℕ) → start ≤ length path → ((k : ℕ) → start ≤ k → k < length path → get_or path k 0 ≢ 47) → (0 < start → get_or path (start - 1) 0 ≡ 47) → last_part path ≡ start
+  part_from : (start : ℕ) → start ≤ length path → ((k : ℕ) → start ≤ k → k < length path → get_or path k 0 ≢ 47)
+      → (0 < start → get_or path (start - 1) 0 ≡ 47) → last_part path ≡ start
   unfolding last_part
   part_from start within since before =
-      let n = suffix_len_is (λ c. not (c == 47)) path start 0 within (λ k a b. no_slash (get_or path k 0) (since k a b)) (λ p. a_slash (get_or path (start - 1) 0) (before p)) in
+      let n = suffix_len_is (λ c. not (c == 47)) path start 0 within (λ k a b. no_slash (get_or path k 0) (since k a b))
+              (λ p. a_slash (get_or path (start - 1) 0) (before p)) in
       rw n (omega arith)
 
   -- without a `/` a path is its last part
@@ -35,7 +38,8 @@ module _ (path : List ℕ) where
     none_since : (k : ℕ) → i + 1 ≤ k → k < length path → get_or path k 0 ≢ 47
     none_since k a b e =
         let back : j + (k - j) ≡ k = omega (arith, behind) in
-        NoCharPasses-char 47 (drop j path) (k - j) found.0 (omega arith) (omega (arith, length-drop j path, behind)) (get_or-drop j path (k - j) 0 ∙ ap (λ n. get_or path n 0) back ∙ e)
+        NoCharPasses-char 47 (drop j path) (k - j) found.0 (omega arith) (omega (arith, length-drop j path, behind)) (get_or-drop j path (k - j) 0
+            ∙ ap (λ n. get_or path n 0) back ∙ e)
 
     pub part_behind : last_part path ≡ i + 1
     part_behind =

@@ -54,11 +54,14 @@ module _ (args at : ℕ) where
   close_kept [] = refl
   close_kept (t ∷ []) = one_ended t.kind t
   close_kept (t ∷ u ∷ ts) =
-      ap (λ (b : Answer (List Tok)). if is_param t.kind then onto (hash_before args u.kind t.at) b else onto (itself t.kind t) (body_of args (u ∷ ts ++ closer ∷ []))) (close_kept ts)
-      ∙ ap (λ (b : Answer (List Tok)). if is_param t.kind then onto (hash_before args u.kind t.at) (ended closer (body_of args ts)) else onto (itself t.kind t) b) (close_kept (u ∷ ts))
+      ap (λ (b : Answer (List Tok)). if is_param t.kind then onto (hash_before args u.kind t.at) b else onto (itself t.kind t)
+          (body_of args (u ∷ ts ++ closer ∷ []))) (close_kept ts)
+      ∙ ap (λ (b : Answer (List Tok)). if is_param t.kind then onto (hash_before args u.kind t.at) (ended closer (body_of args ts))
+          else onto (itself t.kind t) b) (close_kept (u ∷ ts))
       ∙ chosen_ended (is_param t.kind) (hash_before args u.kind t.at) (itself t.kind t) closer (body_of args ts) (body_of args (u ∷ ts))
 
-  word_kept : (w : ℕ) (ts : List Tok) → body_of args (record { kind = Word w; at = at } ∷ ts) ≡ onto (Ok (record { kind = Word w; at = at })) (body_of args ts)
+  word_kept : (w : ℕ) (ts : List Tok)
+      → body_of args (record { kind = Word w; at = at } ∷ ts) ≡ onto (Ok (record { kind = Word w; at = at })) (body_of args ts)
   unfolding body_of
   word_kept w [] = refl
   word_kept w (u ∷ ts) = refl
@@ -72,25 +75,31 @@ module _ (args at : ℕ) where
     -- the list of a style is kept as a body is
     pub style_kept : (list : List Tok) → body_of args (also_keys also at list) ≡ (body_of args list >>= λ ts. Ok (also_keys also at ts))
     style_kept list =
-        word_kept also _ ∙ ap (onto (Ok (record { kind = Word also; at = at }))) (open_kept _ ∙ ap (onto (Ok (record { kind = Open; at = at }))) (close_kept list))
+        word_kept also _ ∙ ap (onto (Ok (record { kind = Word also; at = at }))) (open_kept _ ∙ ap (onto (Ok (record { kind = Open; at = at })))
+            (close_kept list))
         ∙ go (body_of args list)
       where
-        go : (body : Answer (List Tok)) → onto (Ok (record { kind = Word also; at = at })) (onto (Ok (record { kind = Open; at = at })) (ended closer body)) ≡ (body >>= λ ts. Ok (also_keys also at ts))
+        go : (body : Answer (List Tok))
+            → onto (Ok (record { kind = Word also; at = at })) (onto (Ok (record { kind = Open; at = at })) (ended closer body))
+                ≡ (body >>= λ ts. Ok (also_keys also at ts))
         go (Ok ts) = refl
         go (Err e) = refl
 
     module _ (before list behind : List Tok) where
-      pub styled_is : (ts : List Tok) → body_of args list ≡ Ok ts → styled also at args before list behind ≡ Ok (runs.Code args (before ++ also_keys also at ts ++ behind))
+      pub styled_is : (ts : List Tok) → body_of args list ≡ Ok ts
+          → styled also at args before list behind ≡ Ok (runs.Code args (before ++ also_keys also at ts ++ behind))
       styled_is ts known =
           let f : List Tok → Answer Run = λ style. Ok (runs.Code args (before ++ style ++ behind)) in
           ap (λ (m : Answer (List Tok)). m >>= f) (style_kept list ∙ ap (λ (m : Answer (List Tok)). m >>= λ ts. Ok (also_keys also at ts)) known)
 
       pub styled_fails : (e : Refusal) → Fails e (body_of args list) → Fails e (styled also at args before list behind)
-      styled_fails e h = fails_then e (body_of args (also_keys also at list)) _ (fails_as e _ _ (style_kept list) (fails_then e (body_of args list) _ h))
+      styled_fails e h =
+          fails_then e (body_of args (also_keys also at list)) _ (fails_as e _ _ (style_kept list) (fails_then e (body_of args list) _ h))
 
     pub style_alone : (list : List Tok) → styled also at args [] list [] ≡ coded args (also_keys also at list)
     style_alone list = go (body_of args (also_keys also at list))
       where
-        go : (m : Answer (List Tok)) → ◌≡◌ {A = Answer Run} (m >>= λ style. Ok (runs.Code args ([] ++ style ++ []))) (m >>= λ style. Ok (runs.Code args style))
+        go : (m : Answer (List Tok))
+            → ◌≡◌ {A = Answer Run} (m >>= λ style. Ok (runs.Code args ([] ++ style ++ []))) (m >>= λ style. Ok (runs.Code args style))
         go (Ok ts) = ap (λ (ts : List Tok). (let a : Answer Run = Ok (runs.Code args ts) in a)) (append-nil ts)
         go (Err e) = refl

@@ -11,7 +11,9 @@ use Rattle.tk_store.specs.declared.Run.{Run}
 use Rattle.tk_store.specs.declared.Run.TheVariants as runs
 use Rattle.tk_store.specs.Bodies.{body_of}
 use Rattle.tk_keytext.specs.declared.Handler.{Handler}
-use Rattle.tk_keytext.specs.declared.Handler.TheVariants.{Code, CodeTwo, Style, StyleTwo, AppendStyle, PrefixStyle, Default, ValueRequired, ValueForbidden, Initial, IsChoice, StoreIn}
+use Rattle.tk_keytext.specs.declared.Handler.TheVariants.{Code, CodeTwo, Style, StyleTwo, AppendStyle, PrefixStyle}
+use Rattle.tk_keytext.specs.declared.Handler.TheVariants.{Default, ValueRequired, ValueForbidden, Initial, IsChoice}
+use Rattle.tk_keytext.specs.declared.Handler.TheVariants.{StoreIn}
 
 -- nothing runs, no value is stored, and a value may be there or not
 abbrev pub no_entry : Entry

@@ -3,7 +3,9 @@ use Rattle.std.specs.Prelude.{ℕ, List, [], ◌∷◌, Option, codes}
 use Rattle.std.specs.Map.{lookup}
 use Rattle.std.specs.Str.{bytes_eq}
 use Rattle.tk_keytext.specs.declared.Handler.{Handler}
-use Rattle.tk_keytext.specs.declared.Handler.TheVariants.{Cd, Code, CodeTwo, Style, StyleTwo, AppendStyle, PrefixStyle, Default, ValueRequired, ValueForbidden, Initial, IsChoice, StoreIn, Try}
+use Rattle.tk_keytext.specs.declared.Handler.TheVariants.{Cd, Code, CodeTwo, Style, StyleTwo, AppendStyle, PrefixStyle}
+use Rattle.tk_keytext.specs.declared.Handler.TheVariants.{Default, ValueRequired, ValueForbidden, Initial, IsChoice}
+use Rattle.tk_keytext.specs.declared.Handler.TheVariants.{StoreIn, Try}
 
 -- each name with its handler
 abbrev pub handlers : List (List ℕ × Handler)

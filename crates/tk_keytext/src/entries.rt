@@ -14,9 +14,9 @@ use tk_token::{Code, Fault, Kind, Refusal, Tok, one_word};
 /// The entry that a handler makes of what stands at a path, if anything does, and of the value of a part that stands at
 /// `at`; `also` is the number of the word `pgfkeysalso`. So `.style={draw}` makes one that runs `\pgfkeysalso{draw}`.
 ///
-/// What doesn't fit is `HandlerValue` at the part: a value that is missing, none that is one control word for `.store in`,
-/// a run that is no code for `.append style` and `.prefix style`, and `.cd` and `.try`, which make no entry. A `#` in code
-/// that stands for no argument is `MacroSyntax` at the `#`.
+/// What doesn't fit is `HandlerValue` at the part: a value that is missing, none that is one control word for `.store
+/// in`, a run that is no code for `.append style` and `.prefix style`, and `.cd` and `.try`, which make no entry. A `#`
+/// in code that stands for no argument is `MacroSyntax` at the `#`.
 #[tactic(auto, unfolding(crate::specs::Entries::edited))]
 pub fn edit_entry(
     alloc: Global,

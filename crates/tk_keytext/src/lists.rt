@@ -12,8 +12,8 @@ ghost use Rattle.tk_keytext.specs.Parts.{parts_of};
 use std::marker::Model;
 use tk_token::{Tok, after_spaces, before_char, trimmed, unbraced};
 
-/// A part of a key list: the name of a key, and its value if it has one. The Spaces round both are left out, and then one
-/// outer pair of braces of the value.
+/// A part of a key list: the name of a key, and its value if it has one. The Spaces round both are left out, and then
+/// one outer pair of braces of the value.
 #[derive(Clone, Copy, Debug, PartialEq, Eq)]
 pub struct Part<'a> {
     pub name: &'a [Tok],
@@ -37,8 +37,8 @@ impl<'a> Model for Parts<'a> {
     ghost view = { λ parts. parts_of parts.rest.now };
 }
 
-/// The parts of a key list, in order: `a, b = {c,d}, ,e` has `a`, `b` with the value `c,d`, and `e`. Each token is looked at
-/// a few times at most until all parts were taken.
+/// The parts of a key list, in order: `a, b = {c,d}, ,e` has `a`, `b` with the value `c,d`, and `e`. Each token is
+/// looked at a few times at most until all parts were taken.
 pub fn split_list(list: &[Tok]) -> Parts<'_>
     ensures { result ≡ parts_of list.now }
 {
@@ -93,7 +93,8 @@ fn part_of(piece: &[Tok]) -> Option<Part<'_>>
     Some(part_by(first.at, piece))
 }
 
-/// The part at a place: what stands before the first `=` outside braces is its name, and what stands behind it its value.
+/// The part at a place: what stands before the first `=` outside braces is its name, and what stands behind it its
+/// value.
 fn part_by(at: u32, piece: &[Tok]) -> Part<'_>
     ensures { key_part result ≡ parts.part_by at piece.now (groups.before_char equals piece.now) }
 {

@@ -1,5 +1,6 @@
 -- Dashes, counted down.
-use Rattle.std.specs.Prelude.{◌≡◌, ℕ, ◌<◌, ◌≤◌, suc, ◌-◌, ◌+◌, ◌==◌, Bool, true, false, if◌then◌else◌, List, [], ◌∷◌, ◌++◌, length, Option, Some, None, is_some, Ok, Err, ℤ}
+use Rattle.std.specs.Prelude.{◌≡◌, ℕ, ◌<◌, ◌≤◌, suc, ◌-◌, ◌+◌, ◌==◌, Bool, true, false, if◌then◌else◌, List, [], ◌∷◌, ◌++◌, length, Option, Some}
+use Rattle.std.specs.Prelude.{None, is_some, Ok, Err, ℤ}
 use Rattle.std.proofs.Common.{refl, ap, sym, arith, ◌∙◌, append_assoc}
 use Rattle.std.proofs.lemmas.Bool.{true≢false}
 use Rattle.tk_characters.specs.Options.{◌and_then◌}
@@ -97,17 +98,20 @@ module _ (at : ℕ) (ev : Evaluation) (font : FontUnits) where
   unfolding dash_lengths
   starts d ds on is = ap (λ (a : Answer ℤ). a >>= behind_on d ds) is
 
-  continues : (d : Dash) (ds : List Dash) (on : ℤ) (off : Answer ℤ) → dash_length at ev font d.on ≡ Ok on → dash_length at ev font d.off ≡ off → dash_lengths at ev font (d ∷ ds) ≡ (off >>= behind_off ds on)
+  continues : (d : Dash) (ds : List Dash) (on : ℤ) (off : Answer ℤ) → dash_length at ev font d.on ≡ Ok on → dash_length at ev font d.off ≡ off
+      → dash_lengths at ev font (d ∷ ds) ≡ (off >>= behind_off ds on)
   continues d ds on off first second = starts d ds (Ok on) first ∙ ap (λ (a : Answer ℤ). a >>= behind_off ds on) second
 
   module _ (ts : List Tok) (n : ℕ) (d : Dash) (is : Some d ≡ dash_of ts) where
     -- a length that isn't there is the fault of all
-    pub on_fails : is_some (all_dashes (suc n) ts) ≡ true → (f : Fault) → dash_length at ev font d.on ≡ Err f → lengths_of (all_dashes (suc n) ts) ≡ Err f
+    pub on_fails : is_some (all_dashes (suc n) ts) ≡ true → (f : Fault) → dash_length at ev font d.on ≡ Err f
+        → lengths_of (all_dashes (suc n) ts) ≡ Err f
     on_fails there f e =
         let (ds, found) = begin_with ts n d is there in
         ap lengths_of found ∙ starts d ds (Err f) e
 
-    pub off_fails : is_some (all_dashes (suc n) ts) ≡ true → (on : ℤ) (f : Fault) → dash_length at ev font d.on ≡ Ok on → dash_length at ev font d.off ≡ Err f → lengths_of (all_dashes (suc n) ts) ≡ Err f
+    pub off_fails : is_some (all_dashes (suc n) ts) ≡ true → (on : ℤ) (f : Fault) → dash_length at ev font d.on ≡ Ok on
+        → dash_length at ev font d.off ≡ Err f → lengths_of (all_dashes (suc n) ts) ≡ Err f
     off_fails there on f first e =
         let (ds, found) = begin_with ts n d is there in
         ap lengths_of found ∙ continues d ds on (Err f) first e

@@ -8,12 +8,14 @@ use Rattle.tk_token.specs.Kinds.{is_char}
 use Rattle.tk_look.specs.Values.{before_closing}
 
 -- a token comes before those of a choice
-one_more : (b : Bool) (t : Tok) (ts : List Tok) → option_map (λ before. t ∷ before) (if b then Some ts else None) ≡ (if b then Some (t ∷ ts) else None)
+one_more : (b : Bool) (t : Tok) (ts : List Tok)
+    → option_map (λ before. t ∷ before) (if b then Some ts else None) ≡ (if b then Some (t ∷ ts) else None)
 one_more true t ts = refl
 one_more false t ts = refl
 
 -- whether the last token is a `)` decides
-before_closing_is : (before : List Tok) (last : Tok) → before_closing (before ++ last ∷ []) ≡ (if is_char right_parenthesis last.kind then Some before else None)
+before_closing_is : (before : List Tok) (last : Tok)
+    → before_closing (before ++ last ∷ []) ≡ (if is_char right_parenthesis last.kind then Some before else None)
 unfolding before_closing
 before_closing_is [] last = refl
 before_closing_is (t ∷ []) last = one_more (is_char right_parenthesis last.kind) t []

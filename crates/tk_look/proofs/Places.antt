@@ -1,6 +1,7 @@
 -- Where the faults of native keys stand: what holds of the place of the key's part, and of the places of the value's tokens,
 -- holds of theirs.
-use Rattle.std.specs.Prelude.{ℕ, zero, suc, ◌-◌, ◌==◌, Bool, true, false, if◌then◌else◌, int_le, nat_le, unsigned_abs, List, [], ◌∷◌, length, take, drop, unwrap_or, Option, Some, None, option_map, Ok, Err, IfErr, IfSome, Result, ℤ, pos, codes}
+use Rattle.std.specs.Prelude.{ℕ, zero, suc, ◌-◌, ◌==◌, Bool, true, false, if◌then◌else◌, int_le, nat_le, unsigned_abs, List, [], ◌∷◌, length, take}
+use Rattle.std.specs.Prelude.{drop, unwrap_or, Option, Some, None, option_map, Ok, Err, IfErr, IfSome, Result, ℤ, pos, codes}
 use Rattle.std.specs.List.{AllByRecursion, prefix_len, suffix_len}
 use Rattle.std.specs.Map.{lookup}
 use Rattle.std.specs.Str.{bytes_eq}
@@ -20,7 +21,8 @@ use Rattle.tk_token.proofs.Outside.{first_outside_keeps, before_char_keeps}
 use Rattle.tk_native.specs.declared.Native.{Native}
 use Rattle.tk_native.specs.declared.Native.TheVariants as natives
 use Rattle.tk_native.specs.declared.LookKey.{LookKey}
-use Rattle.tk_native.specs.declared.LookKey.TheVariants.{Colour, Paint, Length, Angle, Measure, Flag, LineWidth, LineCap, LineJoin, MiterLimit, DashPattern, Shape, Anchor, Pos, Name, Unknown}
+use Rattle.tk_native.specs.declared.LookKey.TheVariants.{Colour, Paint, Length, Angle, Measure, Flag, LineWidth, LineCap, LineJoin, MiterLimit}
+use Rattle.tk_native.specs.declared.LookKey.TheVariants.{DashPattern, Shape, Anchor, Pos, Name, Unknown}
 use Rattle.tk_native.specs.declared.PaintKey.{PaintKey}
 use Rattle.tk_native.specs.declared.TransformKey.{TransformKey}
 use Rattle.tk_native.specs.declared.TransformKey.TheVariants.{Step, Beside, Shift, RotateAround, Cm}
@@ -36,11 +38,13 @@ use Rattle.tk_expr.specs.Pairs.{paired}
 use Rattle.tk_expr.proofs.Places.{paired_by_at, vector_at}
 use Rattle.tk_look.specs.declared.GraphicsState.{GraphicsState}
 use Rattle.tk_look.specs.declared.Look.{Look}
-use Rattle.tk_look.specs.Applied.{paint_by, paint, with_name, shaped_or_unknown, coloured_or_shaped, by_own_name, shift_by, turn_around, matrix_step, side_length, position_value, set_look, transformed, native_applied}
+use Rattle.tk_look.specs.Applied.{paint_by, paint, with_name, shaped_or_unknown, coloured_or_shaped, by_own_name, shift_by, turn_around, matrix_step}
+use Rattle.tk_look.specs.Applied.{side_length, position_value, set_look, transformed, native_applied}
 use Rattle.tk_look.specs.Colours.{colour_of}
 use Rattle.tk_look.specs.Dashes.{Dash, up_to_word, behind_word, dash_of, all_dashes, dash_length, dash_lengths, pattern_value}
 use Rattle.tk_look.specs.Graphics.{answer_at, graphics_by}
-use Rattle.tk_look.specs.Values.{found_in, colour_in, before_closing, between_parentheses, value_there, word_value, colour_value, at_least, is_misfit, as_anchor, measure_value, number_value, number_from, anchor_by, anchor_value, vector_value}
+use Rattle.tk_look.specs.Values.{found_in, colour_in, before_closing, between_parentheses, value_there, word_value, colour_value, at_least, is_misfit}
+use Rattle.tk_look.specs.Values.{as_anchor, measure_value, number_value, number_from, anchor_by, anchor_value, vector_value}
 use Rattle.tk_look.specs.Words.{caps, joins, shapes, anchors}
 
 module _ (P : ℕ → Type 0) where
@@ -125,9 +129,11 @@ module _ (P : ℕ → Type 0) where
   word_within word ts h =
       let rest = drop (length word) ts in
       let inside = dropped (length word) ts h in
-      some_if CutWithin (begins_text word ts) (up_to_word rest) (cut_or_all (first_outside begins_dash rest) rest (first_outside_keeps (λ (t : Tok). P t.at) begins_dash rest inside) inside)
+      some_if CutWithin (begins_text word ts) (up_to_word rest) (cut_or_all (first_outside begins_dash rest) rest
+          (first_outside_keeps (λ (t : Tok). P t.at) begins_dash rest inside) inside)
 
-  then_some : {A B : Type 0} (Q : A → Type 0) (R : B → Type 0) (o : Option A) (f : A → Option B) → IfSome o Q → ((x : A) → Q x → IfSome (f x) R) → IfSome (o and_then f) R
+  then_some : {A B : Type 0} (Q : A → Type 0) (R : B → Type 0) (o : Option A) (f : A → Option B) → IfSome o Q → ((x : A) → Q x → IfSome (f x) R)
+      → IfSome (o and_then f) R
   then_some Q R None f h k = tt
   then_some Q R (Some x) f h k = k x h
 
@@ -142,16 +148,19 @@ module _ (P : ℕ → Type 0) where
   unfolding all_dashes
   dashes_within zero ts h = tt
   dashes_within (suc n) ts h =
-      then_some DashWithin (AllByRecursion DashWithin) (dash_of ts) _ (dash_within ts h) (λ d k. by d k (dashes_within n d.rest k.rest) (length d.rest == 0))
+      then_some DashWithin (AllByRecursion DashWithin) (dash_of ts) _ (dash_within ts h) (λ d k. by d k (dashes_within n d.rest k.rest)
+          (length d.rest == 0))
     where
-      by : (d : Dash) → DashWithin d → IfSome (all_dashes n d.rest) (AllByRecursion DashWithin) → (b : Bool) → IfSome (if b then Some (d ∷ []) else (all_dashes n d.rest and_then λ ds. Some (d ∷ ds))) (AllByRecursion DashWithin)
+      by : (d : Dash) → DashWithin d → IfSome (all_dashes n d.rest) (AllByRecursion DashWithin) → (b : Bool)
+          → IfSome (if b then Some (d ∷ []) else (all_dashes n d.rest and_then λ ds. Some (d ∷ ds))) (AllByRecursion DashWithin)
       by d k more true = (k, tt)
       by d k more false = then_some (AllByRecursion DashWithin) (AllByRecursion DashWithin) (all_dashes n d.rest) _ more (λ ds m. (k, m))
 
   -- ---- by the place of a key
 
   module _ (at : ℕ) (here : P at) where
-    or_then : {A B : Type 0} (Q : A → Type 0) (o : Option A) (code : Code) (f : A → Answer B) → IfSome o Q → ((x : A) → Q x → Fine (f x)) → Fine (or_fault o code at >>= f)
+    or_then : {A B : Type 0} (Q : A → Type 0) (o : Option A) (code : Code) (f : A → Answer B) → IfSome o Q → ((x : A) → Q x → Fine (f x))
+        → Fine (or_fault o code at >>= f)
     or_then Q None code f h k = here
     or_then Q (Some x) code f h k = k x h
 
@@ -159,7 +168,8 @@ module _ (P : ℕ → Type 0) where
     or_fine None code = here
     or_fine (Some x) code = tt
 
-    there : {B : Type 0} (value : Option (List Tok)) (f : List Tok → Answer B) → IfSome value Within → ((list : List Tok) → Within list → Fine (f list)) → Fine (value_there at value >>= f)
+    there : {B : Type 0} (value : Option (List Tok)) (f : List Tok → Answer B) → IfSome value Within
+        → ((list : List Tok) → Within list → Fine (f list)) → Fine (value_there at value >>= f)
     there value f h k = or_then Within value codes_of.ValueRequired f h k
 
     word_fine : {A : Type 0} (table : List (List ℕ × A)) (value : Option (List Tok)) → IfSome value Within → Fine (word_value at table value)
@@ -171,14 +181,16 @@ module _ (P : ℕ → Type 0) where
     paint_by_fine : (key : PaintKey) (text : Option (List ℕ)) (look : Look) → Fine (paint_by at key text look)
     paint_by_fine key None look = here
     paint_by_fine key (Some text) look =
-        fine_if (bytes_eq text (codes "none")) _ _ tt (fine_then (or_fault (colour_of text) codes_of.Colour at) _ (or_fine (colour_of text) codes_of.Colour) (λ c. tt))
+        fine_if (bytes_eq text (codes "none")) _ _ tt (fine_then (or_fault (colour_of text) codes_of.Colour at) _
+            (or_fine (colour_of text) codes_of.Colour) (λ c. tt))
 
     paint_fine : (key : PaintKey) (value : Option (List Tok)) (look : Look) → Fine (paint at key value look)
     paint_fine key None look = tt
     paint_fine key (Some list) look = paint_by_fine key (text_in list) look
 
     name_fine : (value : Option (List Tok)) (look : Look) → IfSome value Within → Fine (with_name at value look)
-    name_fine value look h = there value _ h (λ list k. fine_then (or_fault (text_in (trimmed list)) codes_of.Coordinate at) _ (or_fine (text_in (trimmed list)) codes_of.Coordinate) (λ name. tt))
+    name_fine value look h = there value _ h (λ list k. fine_then (or_fault (text_in (trimmed list)) codes_of.Coordinate at) _
+        (or_fine (text_in (trimmed list)) codes_of.Coordinate) (λ name. tt))
 
     shaped_fine : (o : Option NodeShape) (look : Look) → Fine (shaped_or_unknown at o look)
     shaped_fine None look = here
@@ -245,10 +257,12 @@ module _ (P : ℕ → Type 0) where
 
       pattern_fine : (value : Option (List Tok)) → IfSome value Within → Fine (pattern_value at ev font value)
       pattern_fine value h = there value _ h (λ list k.
-          or_then (AllByRecursion DashWithin) (all_dashes 8 (after_spaces list)) codes_of.Domain _ (dashes_within 8 (after_spaces list) (behind_spaces list k)) (λ ds m. lengths_fine ds m))
+          or_then (AllByRecursion DashWithin) (all_dashes 8 (after_spaces list)) codes_of.Domain _ (dashes_within 8 (after_spaces list)
+              (behind_spaces list k)) (λ ds m. lengths_fine ds m))
 
       position_fine : (value : Option (List Tok)) → IfSome value Within → Fine (position_value at ev font value)
-      position_fine value h = fine_then (number_value at ev font value) _ (number_fine value h) (λ t. fine_if (nat_le (unsigned_abs t) 524288) _ _ tt here)
+      position_fine value h =
+          fine_then (number_value at ev font value) _ (number_fine value h) (λ t. fine_if (nat_le (unsigned_abs t) 524288) _ _ tt here)
 
       side_fine : (value : Option (List Tok)) → IfSome value Within → Fine (side_length at ev font value)
       side_fine None h = tt
@@ -274,7 +288,8 @@ module _ (P : ℕ → Type 0) where
           fine_then (ev font at fourth.front) _ (ev_fine fourth.front n.0) (λ d.
           fine_then (vector_value at ev font look fourth.rest) _ (vector_fine look fourth.rest n.1) (λ v. tt)))))))))
 
-      set_fine : (key : LookKey) (name : List ℕ) (value : Option (List Tok)) (look : Look) → IfSome value Within → Fine (set_look at ev font key name value look)
+      set_fine : (key : LookKey) (name : List ℕ) (value : Option (List Tok)) (look : Look) → IfSome value Within
+          → Fine (set_look at ev font key name value look)
       unfolding set_look
       set_fine (Colour key) name value look h = fine_then (colour_value at value) _ (colour_fine value h) (λ c. tt)
       set_fine (Paint key) name value look h = paint_fine key value look
@@ -293,19 +308,27 @@ module _ (P : ℕ → Type 0) where
       set_fine Name name value look h = name_fine value look h
       set_fine Unknown name value look h = own_name_fine name value look
 
-      transformed_fine : (key : TransformKey) (value : Option (List Tok)) (look : Look) → IfSome value Within → Fine (transformed at ev font key value look)
+      transformed_fine : (key : TransformKey) (value : Option (List Tok)) (look : Look) → IfSome value Within
+          → Fine (transformed at ev font key value look)
       unfolding transformed
       transformed_fine (Step key) value look h = fine_then (number_value at ev font value) _ (number_fine value h) (λ l. tt)
       transformed_fine (Beside side) value look h = fine_then (side_length at ev font value) _ (side_fine value h) (λ l. tt)
-      transformed_fine Shift value look h = there value _ h (λ list k. fine_then (shift_by at ev font list look) _ (fine_then (vector_value at ev font look list) _ (vector_fine look list k) (λ v. tt)) (λ step. tt))
-      transformed_fine RotateAround value look h = there value _ h (λ list k. fine_then (turn_around at ev font list look) _ (turn_fine list look k) (λ turn. tt))
-      transformed_fine Cm value look h = there value _ h (λ list k. fine_then (matrix_step at ev font list look) _ (step_fine list look k) (λ step. tt))
+      transformed_fine Shift value look h =
+          there value _ h (λ list k. fine_then (shift_by at ev font list look) _ (fine_then (vector_value at ev font look list) _
+          (vector_fine look list k) (λ v. tt)) (λ step. tt))
+      transformed_fine RotateAround value look h =
+          there value _ h (λ list k. fine_then (turn_around at ev font list look) _ (turn_fine list look k) (λ turn. tt))
+      transformed_fine Cm value look h =
+          there value _ h (λ list k. fine_then (matrix_step at ev font list look) _ (step_fine list look k) (λ step. tt))
 
-      applied_fine : (key : Native) (name : List ℕ) (value : Option (List Tok)) (look : Look) → IfSome value Within → Fine (native_applied at ev font key name value look)
-      applied_fine (natives.Look key) name value look h = fine_then (set_look at ev font key name value look) _ (set_fine key name value look h) (λ new. tt)
+      applied_fine : (key : Native) (name : List ℕ) (value : Option (List Tok)) (look : Look) → IfSome value Within
+          → Fine (native_applied at ev font key name value look)
+      applied_fine (natives.Look key) name value look h =
+          fine_then (set_look at ev font key name value look) _ (set_fine key name value look h) (λ new. tt)
       applied_fine (natives.Transform key) name value look h = transformed_fine key value look h
 
-      pub graphics_fine : (key : Native) (name : List ℕ) (value : Option (List Tok)) (g : GraphicsState) → IfSome value Within → Fine (graphics_by at ev font key name value g)
+      pub graphics_fine : (key : Native) (name : List ℕ) (value : Option (List Tok)) (g : GraphicsState) → IfSome value Within
+          → Fine (graphics_by at ev font key name value g)
       unfolding graphics_by
       graphics_fine key name value g h =
           fine_then (native_applied at ev font key name value g.look) _ (applied_fine key name value g.look h) (λ new.

@@ -17,10 +17,12 @@ is_mark c = c == exclamation_mark
 -- a text without one is the one piece
 pub one_piece : (text : List ℕ) → position_or_len is_mark text ≡ length text → pieces_between text ≡ text ∷ []
 one_piece text none =
-    slice_split_none is_mark text (All-from_get_or (λ (c : ℕ). is_mark c ≡ false) text 0 (λ i l. fails_before_first is_mark text i 0 (omega (arith, none))))
+    slice_split_none is_mark text (All-from_get_or (λ (c : ℕ). is_mark c ≡ false) text 0 (λ i l. fails_before_first is_mark text i 0
+        (omega (arith, none))))
 
 -- another has what stands before it as its first piece
-pub more_pieces : (text front rest : List ℕ) → position_or_len is_mark text < length text → front ≡ before_first is_mark text → rest ≡ after_first is_mark text → pieces_between text ≡ front ∷ pieces_between rest
+pub more_pieces : (text front rest : List ℕ) → position_or_len is_mark text < length text → front ≡ before_first is_mark text
+    → rest ≡ after_first is_mark text → pieces_between text ≡ front ∷ pieces_between rest
 more_pieces text front rest l f r =
     slice_split_first is_mark text 0 l
     ∙ ap (λ (front : List ℕ). front ∷ pieces_between (after_first is_mark text)) (sym f)

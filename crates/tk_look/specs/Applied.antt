@@ -1,5 +1,6 @@
 -- What the native keys make of their values, and of a look.
-use Rattle.std.specs.Prelude.{ℕ, Bool, true, false, nat_le, unsigned_abs, if◌then◌else◌, List, [], ◌∷◌, Option, Some, None, Ok, ℤ, pos, neg_ℤ, codes}
+use Rattle.std.specs.Prelude.{ℕ, Bool, true, false, nat_le, unsigned_abs, if◌then◌else◌, List, [], ◌∷◌, Option, Some}
+use Rattle.std.specs.Prelude.{None, Ok, ℤ, pos, neg_ℤ, codes}
 use Rattle.std.specs.Map.{lookup}
 use Rattle.std.specs.Str.{bytes_eq}
 use Rattle.tk_characters.specs.Characters.{comma, colon}
@@ -19,21 +20,27 @@ use Rattle.tk_native.specs.declared.ColourKey.TheVariants.{Color, Text}
 use Rattle.tk_native.specs.declared.PaintKey.{PaintKey}
 use Rattle.tk_native.specs.declared.PaintKey.TheVariants.{Draw, Fill}
 use Rattle.tk_native.specs.declared.LengthKey.{LengthKey}
-use Rattle.tk_native.specs.declared.LengthKey.TheVariants.{DashPhase, X, Y, InnerSep, InnerXSep, InnerYSep, OuterSep, OuterXSep, OuterYSep, MinimumSize, MinimumWidth, MinimumHeight}
+use Rattle.tk_native.specs.declared.LengthKey.TheVariants.{DashPhase, X, Y, InnerSep, InnerXSep, InnerYSep, OuterSep}
+use Rattle.tk_native.specs.declared.LengthKey.TheVariants.{OuterXSep, OuterYSep, MinimumSize, MinimumWidth}
+use Rattle.tk_native.specs.declared.LengthKey.TheVariants.{MinimumHeight}
 use Rattle.tk_native.specs.declared.AngleKey.{AngleKey}
 use Rattle.tk_native.specs.declared.AngleKey.TheVariants.{Start, End, Delta}
 use Rattle.tk_native.specs.declared.MeasureKey.{MeasureKey}
 use Rattle.tk_native.specs.declared.MeasureKey.TheVariants.{Radius, XRadius, YRadius, GridStep, XStep, YStep}
 use Rattle.tk_native.specs.declared.LookKey.{LookKey}
-use Rattle.tk_native.specs.declared.LookKey.TheVariants.{Colour, Paint, Length, Angle, Measure, Flag, LineWidth, LineCap, LineJoin, MiterLimit, DashPattern, Shape, Anchor, Pos, Name, Unknown}
+use Rattle.tk_native.specs.declared.LookKey.TheVariants.{Colour, Paint, Length, Angle, Measure, Flag, LineWidth}
+use Rattle.tk_native.specs.declared.LookKey.TheVariants.{LineCap, LineJoin, MiterLimit, DashPattern, Shape, Anchor, Pos}
+use Rattle.tk_native.specs.declared.LookKey.TheVariants.{Name, Unknown}
 use Rattle.tk_native.specs.declared.TransformKey.{TransformKey}
 use Rattle.tk_native.specs.declared.TransformKey.TheVariants.{Step, Beside, Shift, RotateAround, Cm}
 use Rattle.tk_native.specs.declared.StepKey.{StepKey}
 use Rattle.tk_native.specs.declared.StepKey.TheVariants.{XShift, YShift, Rotate, Scale, XScale, YScale, XSlant, YSlant}
 use Rattle.tk_native.specs.declared.FlagKey.{FlagKey}
-use Rattle.tk_native.specs.declared.FlagKey.TheVariants.{Solid, Dotted, DenselyDotted, LooselyDotted, EvenOddRule, NonZeroRule, Sloped, Baseline}
+use Rattle.tk_native.specs.declared.FlagKey.TheVariants.{Solid, Dotted, DenselyDotted, LooselyDotted, EvenOddRule}
+use Rattle.tk_native.specs.declared.FlagKey.TheVariants.{NonZeroRule, Sloped, Baseline}
 use Rattle.tk_native.specs.declared.Side.{Side}
-use Rattle.tk_native.specs.declared.Side.TheVariants.{Above, Below, Left, Right, AboveLeft, AboveRight, BelowLeft, BelowRight}
+use Rattle.tk_native.specs.declared.Side.TheVariants.{Above, Below, Left, Right, AboveLeft, AboveRight, BelowLeft}
+use Rattle.tk_native.specs.declared.Side.TheVariants.{BelowRight}
 use Rattle.tk_affine.specs.declared.Anchor.{Anchor as NodeAnchor}
 use Rattle.tk_affine.specs.declared.Anchor.TheVariants as anchors
 use Rattle.tk_affine.specs.declared.Shape.{Shape as NodeShape}
@@ -45,7 +52,8 @@ use Rattle.tk_expr.specs.Evaluates.{Evaluation}
 use Rattle.tk_look.specs.declared.Look.{Look}
 use Rattle.tk_look.specs.Colours.{colour_of}
 use Rattle.tk_look.specs.Dashes.{pattern_value}
-use Rattle.tk_look.specs.Values.{value_there, word_value, colour_value, measure_value, number_value, number_from, anchor_value, vector_value}
+use Rattle.tk_look.specs.Values.{value_there, word_value, colour_value, measure_value, number_value, number_from}
+use Rattle.tk_look.specs.Values.{anchor_value, vector_value}
 use Rattle.tk_look.specs.Words.{caps, joins, shapes}
 
 -- what a key leaves: the look, and the steps that it puts behind those of the transformation

@@ -1,5 +1,6 @@
 -- Colours by their texts (the xcolor manual, section "Colors by name" and "Color expressions").
-use Rattle.std.specs.Prelude.{ℕ, ◌+◌, ◌-◌, ◌*◌, ◌/◌, ◌&&◌, ◌==◌, nat_le, if◌then◌else◌, List, [], ◌∷◌, Option, Some, None, codes}
+use Rattle.std.specs.Prelude.{ℕ, ◌+◌, ◌-◌, ◌*◌, ◌/◌, ◌&&◌, ◌==◌, nat_le, if◌then◌else◌, List, [], ◌∷◌, Option, Some}
+use Rattle.std.specs.Prelude.{None, codes}
 use Rattle.std.specs.List.{slice_split}
 use Rattle.std.specs.Map.{lookup}
 use Rattle.std.specs.Str.{bytes_eq}
@@ -66,8 +67,8 @@ mixed percent c d = rgb (mixed_part percent c.r d.r) (mixed_part percent c.g d.g
 abbrev pub pieces_between : List ℕ → List (List ℕ)
 pieces_between text = slice_split (λ c. c == exclamation_mark) text
 
--- a colour mixed with those that follow: each percentage says how much of the colour so far is taken, and a last one stands
--- before white
+-- a colour mixed with those that follow: each percentage says how much of the colour so far is taken, and a last one
+-- stands before white
 abbrev pub mixed_with : Rgb → List (List ℕ) → Option Rgb
 mixed_with c [] = Some c
 mixed_with c (share ∷ []) = percentage share and_then λ percent. Some (mixed percent c white)

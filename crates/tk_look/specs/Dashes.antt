@@ -1,5 +1,6 @@
 -- Dash patterns: `on 3pt off 2pt`.
-use Rattle.std.specs.Prelude.{ℕ, zero, suc, ◌==◌, if◌then◌else◌, List, [], ◌∷◌, length, drop, unwrap_or, Option, Some, None, Ok, ℤ, pos, codes}
+use Rattle.std.specs.Prelude.{ℕ, zero, suc, ◌==◌, if◌then◌else◌, List, [], ◌∷◌, length, drop, unwrap_or, Option, Some}
+use Rattle.std.specs.Prelude.{None, Ok, ℤ, pos, codes}
 use Rattle.tk_characters.specs.Options.{◌and_then◌}
 use Rattle.tk_token.specs.declared.Code.TheVariants.{Domain}
 use Rattle.tk_token.specs.declared.Tok.{Tok}
@@ -54,7 +55,8 @@ module _ (at : ℕ) (ev : Evaluation) (font : FontUnits) where
     others ← dash_lengths ds
     Ok (on ∷ (off ∷ others))
 
-  -- the lengths of a pattern of at most eight dashes, which begins with a word; its words are asked before any length is read
+  -- the lengths of a pattern of at most eight dashes, which begins with a word; its words are asked before any length
+  -- is read
   abbrev pub pattern_lengths : List Tok → Answer (List ℤ)
   pattern_lengths list = do
     ds ← or_fault (all_dashes 8 list) Domain at

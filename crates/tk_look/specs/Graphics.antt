@@ -35,7 +35,8 @@ answer_at at (Err e) = fault (matrix_code e) at
 
 -- What a native key makes of its value and of what was set so far: its steps come behind those of the matrix, one after
 -- another.
-unfoldable pub graphics_by : ℕ → Evaluation → FontUnits → Native → List ℕ → Option (List Tok) → GraphicsState → Answer GraphicsState
+unfoldable pub graphics_by : ℕ → Evaluation → FontUnits → Native → List ℕ → Option (List Tok) → GraphicsState
+    → Answer GraphicsState
 graphics_by at ev font key name value g = do
   new ← native_applied at ev font key name value g.look
   matrix ← answer_at at (with_steps g.matrix new.steps)

@@ -19,8 +19,8 @@ length_written l = record { number = l; unit = true }
 abbrev pub centimetre : ℤ
 centimetre = pos 1864679
 
--- The look in which nothing was set: lines of 0.4pt with miters up to 10, vectors of 1cm, and rectangular nodes that are
--- at least 1pt wide, 0.3333em round their text.
+-- The look in which nothing was set: lines of 0.4pt with miters up to 10, vectors of 1cm, and rectangular nodes that
+-- are at least 1pt wide, 0.3333em round their text.
 abbrev pub initial_look : FontUnits → Look
 initial_look font = record {
   name = None;

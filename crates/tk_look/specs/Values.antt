@@ -1,12 +1,14 @@
 -- How the values of native keys are read.
-use Rattle.std.specs.Prelude.{ℕ, Bool, true, false, int_le, if◌then◌else◌, List, [], ◌∷◌, Option, Some, None, Ok, Err, option_map, option_and_then, ℤ}
+use Rattle.std.specs.Prelude.{ℕ, Bool, true, false, int_le, if◌then◌else◌, List, [], ◌∷◌, Option, Some, None, Ok, Err}
+use Rattle.std.specs.Prelude.{option_map, option_and_then, ℤ}
 use Rattle.std.specs.Map.{lookup}
 use Rattle.std.specs.Str.{bytes_eq}
 use Rattle.tk_characters.specs.Characters.{left_parenthesis, right_parenthesis}
 use Rattle.tk_item.specs.declared.Point.{Point}
 use Rattle.tk_item.specs.declared.Rgb.{Rgb}
 use Rattle.tk_token.specs.declared.Code.{Code}
-use Rattle.tk_token.specs.declared.Code.TheVariants.{Domain, Expression, ValueRequired, UnknownChoice, Colour, NoAnchor, Coordinate}
+use Rattle.tk_token.specs.declared.Code.TheVariants.{Domain, Expression, ValueRequired, UnknownChoice, Colour, NoAnchor}
+use Rattle.tk_token.specs.declared.Code.TheVariants.{Coordinate}
 use Rattle.tk_token.specs.declared.Tok.{Tok}
 use Rattle.tk_token.specs.Answers.{Answer, ◌>>=◌, fault, or_fault}
 use Rattle.tk_token.specs.Kinds.{is_char}

@@ -5,7 +5,8 @@ use Rattle.tk_item.specs.declared.Cap.TheVariants as caps_of
 use Rattle.tk_item.specs.declared.Join.{Join}
 use Rattle.tk_item.specs.declared.Join.TheVariants as joins_of
 use Rattle.tk_affine.specs.declared.Anchor.{Anchor}
-use Rattle.tk_affine.specs.declared.Anchor.TheVariants.{Center, North, South, East, West, NorthEast, NorthWest, SouthEast, SouthWest, Base}
+use Rattle.tk_affine.specs.declared.Anchor.TheVariants.{Center, North, South, East, West, NorthEast, NorthWest}
+use Rattle.tk_affine.specs.declared.Anchor.TheVariants.{SouthEast, SouthWest, Base}
 use Rattle.tk_affine.specs.declared.Shape.{Shape}
 use Rattle.tk_affine.specs.declared.Shape.TheVariants.{Rectangle, Circle, Coordinate}
 

@@ -91,7 +91,8 @@ fn first_piece(text: &str) -> (&str, Option<&str>)
 fn mix_first<'a>(so_far: Rgb, pieces: &'a str) -> Option<(Rgb, Option<&'a str>)>
     ensures mixes { MatchOption result
         (spec.mixed_with so_far (spec.pieces_between pieces.now) ≡ None)
-        (λ next. spec.mixed_with so_far (spec.pieces_between pieces.now) ≡ spec.mixed_with next.0 (pieces_behind (option_copied next.1))) }
+        (λ next. spec.mixed_with so_far (spec.pieces_between pieces.now)
+          ≡ spec.mixed_with next.0 (pieces_behind (option_copied next.1))) }
     ensures shorter { IfSome result (λ next. IfSome next.1 (λ rest. length rest.now < length pieces.now)) }
 {
     let (share, behind) = first_piece(pieces);
@@ -105,9 +106,9 @@ fn mix_first<'a>(so_far: Rgb, pieces: &'a str) -> Option<(Rgb, Option<&'a str>)>
     }
 }
 
-/// The colour of a text: the name of a colour, and behind it any number of times `!`, a decimal from 0 to 100, `!` and a
-/// name. The decimal says how many percent of the colour so far are taken, the rest is of that name; at the end of the text
-/// it may stand alone, and the rest is white. None where the text isn't of this form. This takes no memory.
+/// The colour of a text: the name of a colour, and behind it any number of times `!`, a decimal from 0 to 100, `!` and
+/// a name. The decimal says how many percent of the colour so far are taken, the rest is of that name; at the end of
+/// the text it may stand alone, and the rest is white. None where the text isn't of this form. This takes no memory.
 #[tactic(auto, unfolding(crate::specs::Colours::colour_of))]
 pub fn colour(text: &str) -> Option<Rgb>
     ensures { result ≡ spec.colour_of text.now }

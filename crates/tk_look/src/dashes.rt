@@ -113,8 +113,8 @@ fn dash_lengths(list: &[Tok], font: FontUnits, at: u32) -> Result<Dashes, Fault>
     Err(Fault::new(Code::Domain, at))
 }
 
-/// A value that is a pattern: `on`, a length, `off`, a length, and so on, at most eight times, with Spaces before them. The
-/// words are asked before any length is read; `Domain` stands at `at`.
+/// A value that is a pattern: `on`, a length, `off`, a length, and so on, at most eight times, with Spaces before them.
+/// The words are asked before any length is read; `Domain` stands at `at`.
 pub(crate) fn pattern_value(
     value: Option<&[Tok]>,
     font: FontUnits,

@@ -55,9 +55,9 @@ impl GraphicsState {
         Ok(())
     }
 
-    /// Sets what a native key says, as `apply` does for the look; the steps that it makes come behind those of the matrix,
-    /// and TooLarge stands at `at` where a number of the matrix is then out of range. After a refusal the state is fit only
-    /// to be dropped.
+    /// Sets what a native key says, as `apply` does for the look; the steps that it makes come behind those of the
+    /// matrix, and TooLarge stands at `at` where a number of the matrix is then out of range. After a refusal the state
+    /// is fit only to be dropped.
     pub fn set(
         &mut self,
         alloc: Global,

@@ -18,8 +18,8 @@ fn length_written(number: Scaled) -> Value
 }
 
 impl Look {
-    /// The look in which nothing was set: lines of 0.4pt with miters up to 10, vectors of 1cm, and rectangular nodes that are
-    /// at least 1pt wide, 0.3333em round their text. This takes no memory.
+    /// The look in which nothing was set: lines of 0.4pt with miters up to 10, vectors of 1cm, and rectangular nodes
+    /// that are at least 1pt wide, 0.3333em round their text. This takes no memory.
     pub fn initial(font: FontUnits) -> Look
         ensures { result ≡ spec.initial_look font }
     {

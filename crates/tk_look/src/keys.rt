@@ -195,7 +195,8 @@ impl Look {
         at: u32,
     ) -> Result<Step, Fault>
         ensures { MatchResult result
-            (λ step. spec.beside at evaluated font side (option_copied value.entry) self.old ≡ Ok (spec.stepping self.new (step ∷ [])))
+            (λ step. spec.beside at evaluated font side (option_copied value.entry) self.old
+              ≡ Ok (spec.stepping self.new (step ∷ [])))
             (λ fault. spec.beside at evaluated font side (option_copied value.entry) self.old ≡ Err fault) }
     {
         let length = match value {
@@ -289,7 +290,8 @@ impl Look {
         at: u32,
     ) -> Result<Steps, Fault>
         ensures { MatchResult result
-            (λ steps. spec.transformed at evaluated font key (option_copied value.entry) self.old ≡ Ok (spec.stepping self.new steps.items))
+            (λ steps. spec.transformed at evaluated font key (option_copied value.entry) self.old
+              ≡ Ok (spec.stepping self.new steps.items))
             (λ fault. spec.transformed at evaluated font key (option_copied value.entry) self.old ≡ Err fault) }
     {
         match (key, value) {
@@ -329,16 +331,16 @@ impl Look {
     }
 }
 
-/// What a key that is there from the beginning makes of its value and of a look: the look changes, and the steps are those
-/// that it puts behind the others of the transformation, in order.
+/// What a key that is there from the beginning makes of its value and of a look: the look changes, and the steps are
+/// those that it puts behind the others of the transformation, in order.
 ///
-/// The value is expanded already, and `name` is the last part of the path of the key that was asked. `at` is the place of
-/// the key's part in its list, at which these faults stand: `ValueRequired` where a value has to be there and isn't,
-/// `UnknownChoice` where it isn't a word of the key, `Colour` where it isn't the text of a colour, `NoAnchor` where it is
-/// neither the name of an anchor nor an expression, `Coordinate` where a pair in parentheses or the name of a node has to
-/// stand and doesn't, `Domain` where the key doesn't take the number or where a sign or word of its form is missing,
-/// `TooLarge` where the vector of a pair is too long, and `UnknownKey` where the key isn't known. The faults of expressions
-/// stand where `eval` puts them. After a refusal the look is fit only to be dropped.
+/// The value is expanded already, and `name` is the last part of the path of the key that was asked. `at` is the place
+/// of the key's part in its list, at which these faults stand: `ValueRequired` where a value has to be there and isn't,
+/// `UnknownChoice` where it isn't a word of the key, `Colour` where it isn't the text of a colour, `NoAnchor` where it
+/// is neither the name of an anchor nor an expression, `Coordinate` where a pair in parentheses or the name of a node
+/// has to stand and doesn't, `Domain` where the key doesn't take the number or where a sign or word of its form is
+/// missing, `TooLarge` where the vector of a pair is too long, and `UnknownKey` where the key isn't known. The faults
+/// of expressions stand where `eval` puts them. After a refusal the look is fit only to be dropped.
 pub fn apply(
     alloc: Global,
     look: &mut Look,

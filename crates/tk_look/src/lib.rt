@@ -64,8 +64,8 @@ pub struct Look {
     pub inner_xsep: Scaled,
     /// The same above and below.
     pub inner_ysep: Scaled,
-    /// What a node has between its border and its anchors, on the left and on the right; where it isn't set, half the line
-    /// width.
+    /// What a node has between its border and its anchors, on the left and on the right; where it isn't set, half the
+    /// line width.
     pub outer_xsep: Option<Scaled>,
     /// The same above and below.
     pub outer_ysep: Option<Scaled>,

@@ -2,16 +2,22 @@
 use Rattle.std.specs.Prelude.{ℕ, List, [], ◌∷◌, codes}
 use Rattle.tk_native.specs.declared.Native.{Native}
 use Rattle.tk_native.specs.declared.Native.TheVariants.{Look, Transform}
-use Rattle.tk_native.specs.declared.LookKey.TheVariants.{Colour, Paint, Length, Angle, Measure, Flag, LineWidth, LineCap, LineJoin, MiterLimit, DashPattern, Shape, Anchor, Pos, Name, Unknown}
+use Rattle.tk_native.specs.declared.LookKey.TheVariants.{Colour, Paint, Length, Angle, Measure, Flag, LineWidth}
+use Rattle.tk_native.specs.declared.LookKey.TheVariants.{LineCap, LineJoin, MiterLimit, DashPattern, Shape, Anchor, Pos}
+use Rattle.tk_native.specs.declared.LookKey.TheVariants.{Name, Unknown}
 use Rattle.tk_native.specs.declared.TransformKey.TheVariants.{Step, Beside, Shift, RotateAround, Cm}
 use Rattle.tk_native.specs.declared.ColourKey.TheVariants.{Color, Text}
 use Rattle.tk_native.specs.declared.PaintKey.TheVariants.{Draw, Fill}
-use Rattle.tk_native.specs.declared.LengthKey.TheVariants.{DashPhase, X, Y, InnerSep, InnerXSep, InnerYSep, OuterSep, OuterXSep, OuterYSep, MinimumSize, MinimumWidth, MinimumHeight}
+use Rattle.tk_native.specs.declared.LengthKey.TheVariants.{DashPhase, X, Y, InnerSep, InnerXSep, InnerYSep, OuterSep}
+use Rattle.tk_native.specs.declared.LengthKey.TheVariants.{OuterXSep, OuterYSep, MinimumSize, MinimumWidth}
+use Rattle.tk_native.specs.declared.LengthKey.TheVariants.{MinimumHeight}
 use Rattle.tk_native.specs.declared.AngleKey.TheVariants.{Start, End, Delta}
 use Rattle.tk_native.specs.declared.MeasureKey.TheVariants.{Radius, XRadius, YRadius, GridStep, XStep, YStep}
 use Rattle.tk_native.specs.declared.StepKey.TheVariants.{XShift, YShift, Rotate, Scale, XScale, YScale, XSlant, YSlant}
-use Rattle.tk_native.specs.declared.FlagKey.TheVariants.{Solid, Dotted, DenselyDotted, LooselyDotted, EvenOddRule, NonZeroRule, Sloped, Baseline}
-use Rattle.tk_native.specs.declared.Side.TheVariants.{Above, Below, Left, Right, AboveLeft, AboveRight, BelowLeft, BelowRight}
+use Rattle.tk_native.specs.declared.FlagKey.TheVariants.{Solid, Dotted, DenselyDotted, LooselyDotted, EvenOddRule}
+use Rattle.tk_native.specs.declared.FlagKey.TheVariants.{NonZeroRule, Sloped, Baseline}
+use Rattle.tk_native.specs.declared.Side.TheVariants.{Above, Below, Left, Right, AboveLeft, AboveRight, BelowLeft}
+use Rattle.tk_native.specs.declared.Side.TheVariants.{BelowRight}
 
 -- each key with its name
 abbrev pub natives : List (List ℕ × Native)

@@ -1,5 +1,5 @@
-//! The keys and styles below /tikz that are there from the beginning, by their names (the PGF manual, sections "Actions on
-//! Paths", "Transformations" and "Nodes and Edges").
+//! The keys and styles below /tikz that are there from the beginning, by their names (the PGF manual, sections "Actions
+//! on Paths", "Transformations" and "Nodes and Edges").
 #![tactic(auto)]
 
 mod laws;

@@ -1,5 +1,6 @@
 -- Texts that are printed read back, and no shorter ones do.
-use Rattle.std.proofs.Common.{◌≡◌, ◌≢◌, ℕ, ◌+◌, ◌*◌, ◌/◌, ◌%◌, ◌^◌, ◌<◌, ◌≤◌, Bool, true, false, eqb, leb, ltb, lt-ltb, le-leb, List, [], ◌∷◌, length, Option, Some, None, ℤ, pos, unsigned_abs, refl, sym, ap, ◌∙◌, arith, inl, inr, eq-eqb, eqb-true}
+use Rattle.std.proofs.Common.{◌≡◌, ◌≢◌, ℕ, ◌+◌, ◌*◌, ◌/◌, ◌%◌, ◌^◌, ◌<◌, ◌≤◌, Bool, true, false, eqb, leb, ltb, lt-ltb, le-leb, List, [], ◌∷◌, length}
+use Rattle.std.proofs.Common.{Option, Some, None, ℤ, pos, unsigned_abs, refl, sym, ap, ◌∙◌, arith, inl, inr, eq-eqb, eqb-true}
 use Rattle.std.specs.List.{list_all, position_or_len}
 use Rattle.std.specs.Char.{is_ascii_digit}
 use Rattle.std.specs.Str.Parse.{digits_value}
@@ -30,12 +31,14 @@ part-alone ds all = rw (no_point ds all) (drop_all (length ds + 1) ds (omega ari
 
 -- ---- reading back
 
-parts_when : (text : List ℕ) (n : ℕ) → is_decimal text ≡ true → decimal_value text ≡ n → n / 65536 ≤ 1073741823 → decimal_parts text ≡ Some (pos (n / 65536), pos (n % 65536))
+parts_when : (text : List ℕ) (n : ℕ) → is_decimal text ≡ true → decimal_value text ≡ n → n / 65536 ≤ 1073741823
+    → decimal_parts text ≡ Some (pos (n / 65536), pos (n % 65536))
 parts_when text n d v le =
     let few : leb (decimal_value text / 65536) 1073741823 ≡ true = le-leb _ _ (omega (arith, v, le)) in
     rw (d, few) (ap (λ k. Some (pos (k / 65536), pos (k % 65536))) v)
 
-whole_back : (n : ℕ) → n < 2 ^ 64 → n % 65536 ≡ 0 → n / 65536 ≤ 1073741823 → decimal_parts (decimal (n / 65536)) ≡ Some (pos (n / 65536), pos (n % 65536))
+whole_back : (n : ℕ) → n < 2 ^ 64 → n % 65536 ≡ 0 → n / 65536 ≤ 1073741823
+    → decimal_parts (decimal (n / 65536)) ≡ Some (pos (n / 65536), pos (n % 65536))
 whole_back n lt none le =
     let w : ℕ = n / 65536 in
     let small : w < 2 ^ 64 = omega arith in
@@ -74,12 +77,15 @@ read_part None = 0
 read_part (Some p) = unsigned_abs p.1
 
 -- what was read is a decimal of the value
-was_read : (text : List ℕ) (w f : ℕ) → f < 65536 → decimal_parts text ≡ Some (pos w, pos f) → (is_decimal text ≡ true) × (decimal_value text ≡ 65536 * w + f)
+was_read : (text : List ℕ) (w f : ℕ) → f < 65536 → decimal_parts text ≡ Some (pos w, pos f)
+    → (is_decimal text ≡ true) × (decimal_value text ≡ 65536 * w + f)
 was_read text w f lt e = by_tests (is_decimal text) (leb (decimal_value text / 65536) 1073741823) refl refl
   where
-    by_tests : (a b : Bool) → is_decimal text ≡ a → leb (decimal_value text / 65536) 1073741823 ≡ b → (is_decimal text ≡ true) × (decimal_value text ≡ 65536 * w + f)
+    by_tests : (a b : Bool) → is_decimal text ≡ a → leb (decimal_value text / 65536) 1073741823 ≡ b
+        → (is_decimal text ≡ true) × (decimal_value text ≡ 65536 * w + f)
     by_tests true true a b =
-        let is : ◌≡◌ {A = Option (ℤ × ℤ)} (Some (pos (decimal_value text / 65536), pos (decimal_value text % 65536))) (Some (pos w, pos f)) = sym (rw (a, b) refl) ∙ e in
+        let is : ◌≡◌ {A = Option (ℤ × ℤ)} (Some (pos (decimal_value text / 65536), pos (decimal_value text % 65536))) (Some (pos w, pos f))
+                = sym (rw (a, b) refl) ∙ e in
         let whole : decimal_value text / 65536 ≡ w = ap read_whole is in
         let part : decimal_value text % 65536 ≡ f = ap read_part is in
         (a, omega (arith, whole, part))
@@ -116,7 +122,8 @@ shortest_part n text d v ne =
           ])
     ]
 
-pub no_shorter : (n : ℕ) (other : List ℕ) → n ≤ 4294967295 → decimal_parts other ≡ Some (pos (n / 65536), pos (n % 65536)) → places (text_of (pos n)) ≤ places other
+pub no_shorter : (n : ℕ) (other : List ℕ) → n ≤ 4294967295 → decimal_parts other ≡ Some (pos (n / 65536), pos (n % 65536))
+    → places (text_of (pos n)) ≤ places other
 no_shorter n other le e = by_test (eqb (n % 65536) 0) refl
   where
     by_test : (b : Bool) → eqb (n % 65536) 0 ≡ b → places (text_of (pos n)) ≤ places other

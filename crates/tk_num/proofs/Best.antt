@@ -39,22 +39,27 @@ by_count P p1 p2 p3 p4 p5 (suc (suc (suc (suc (suc (suc n)))))) low high = absur
 digits_that_read_back : (f : ℕ) → f < 65536 → (n d : ℕ) → ReadsAs f n d → reads_back n f ≡ true
 digits_that_read_back f lt n d r =
     by_count (λ k. nearest_65536th k d ≡ f → reads_back k f ≡ true)
-    (λ e. eq-eqb _ _ (nearest_digit_reads_back f d e)) (λ e. eq-eqb _ _ (nearest_two_digits_read_back f d e)) (λ e. eq-eqb _ _ (nearest_three_digits_read_back f d e)) (λ e. eq-eqb _ _ (nearest_four_digits_read_back f d e)) (λ e. eq-eqb _ _ (nearest_five_digits_read_back f lt))
+    (λ e. eq-eqb _ _ (nearest_digit_reads_back f d e)) (λ e. eq-eqb _ _ (nearest_two_digits_read_back f d e))
+        (λ e. eq-eqb _ _ (nearest_three_digits_read_back f d e)) (λ e. eq-eqb _ _ (nearest_four_digits_read_back f d e))
+        (λ e. eq-eqb _ _ (nearest_five_digits_read_back f lt))
     n r.some r.most r.reads
 
 -- the nearest are nearer than any others
 nearest_digits_are_nearest : (f n d : ℕ) → 1 ≤ n → n ≤ 5 → distance n (nearest_digits n f) f ≤ distance n d f
 nearest_digits_are_nearest f n d low high =
-    by_count (λ k. distance k (nearest_digits k f) f ≤ distance k d f) (omega arith) (omega arith) (omega arith) (omega arith) (omega arith) n low high
+    by_count (λ k. distance k (nearest_digits k f) f ≤ distance k d f) (omega arith) (omega arith) (omega arith) (omega arith)
+        (omega arith) n low high
 
 nearest_digits_are_greatest : (f n d : ℕ) → 1 ≤ n → n ≤ 5 → distance n (nearest_digits n f) f ≡ distance n d f → d ≤ nearest_digits n f
 nearest_digits_are_greatest f n d low high =
-    by_count (λ k. distance k (nearest_digits k f) f ≡ distance k d f → d ≤ nearest_digits k f) (λ e. omega arith) (λ e. omega arith) (λ e. omega arith) (λ e. omega arith) (λ e. omega arith) n low high
+    by_count (λ k. distance k (nearest_digits k f) f ≡ distance k d f → d ≤ nearest_digits k f) (λ e. omega arith) (λ e. omega arith)
+        (λ e. omega arith) (λ e. omega arith) (λ e. omega arith) n low high
 
 -- digits that read back are no carry
 nearest_digits_are_few : (f n : ℕ) → f < 65536 → 1 ≤ n → n ≤ 5 → nearest_65536th n (nearest_digits n f) ≡ f → nearest_digits n f < 10 ^ n
 nearest_digits_are_few f n lt low high =
-    by_count (λ k. nearest_65536th k (nearest_digits k f) ≡ f → nearest_digits k f < 10 ^ k) (λ e. omega arith) (λ e. omega arith) (λ e. omega arith) (λ e. omega arith) (λ e. omega arith) n low high
+    by_count (λ k. nearest_65536th k (nearest_digits k f) ≡ f → nearest_digits k f < 10 ^ k) (λ e. omega arith) (λ e. omega arith) (λ e. omega arith)
+        (λ e. omega arith) (λ e. omega arith) n low high
 
 best_at : (f n : ℕ) → f < 65536 → 1 ≤ n → n ≤ 5 → reads_back n f ≡ true → ((k d : ℕ) → ReadsAs f k d → n ≤ k) → IsBest f n (nearest_digits n f)
 best_at f n lt low high back least =
@@ -85,13 +90,23 @@ below_more P n all here k low less =
 none_below : (P : ℕ → Type 0) (k : ℕ) → 1 ≤ k → k < 1 → P k
 none_below P k low less = absurd (omega arith)
 
-fewest_digits_chosen : (f : ℕ) → f < 65536 → (b1 b2 b3 b4 : Bool) → reads_back 1 f ≡ b1 → reads_back 2 f ≡ b2 → reads_back 3 f ≡ b3 → reads_back 4 f ≡ b4 →
+fewest_digits_chosen : (f : ℕ) → f < 65536 → (b1 b2 b3 b4 : Bool) → reads_back 1 f ≡ b1 → reads_back 2 f ≡ b2 → reads_back 3 f ≡ b3
+    → reads_back 4 f ≡ b4 →
     let n : ℕ = cond b1 1 (cond b2 2 (cond b3 3 (cond b4 4 5))) in IsBest f n (nearest_digits n f)
 fewest_digits_chosen f lt true b2 b3 b4 e1 e2 e3 e4 = best_at f 1 lt (omega arith) (omega arith) e1 (λ k d r. r.some)
-fewest_digits_chosen f lt false true b3 b4 e1 e2 e3 e4 = best_at f 2 lt (omega arith) (omega arith) e2 (least_from f 2 lt (below_more (λ k. reads_back k f ≡ false) 1 (none_below (λ k. reads_back k f ≡ false)) e1))
-fewest_digits_chosen f lt false false true b4 e1 e2 e3 e4 = best_at f 3 lt (omega arith) (omega arith) e3 (least_from f 3 lt (below_more (λ k. reads_back k f ≡ false) 2 (below_more (λ k. reads_back k f ≡ false) 1 (none_below (λ k. reads_back k f ≡ false)) e1) e2))
-fewest_digits_chosen f lt false false false true e1 e2 e3 e4 = best_at f 4 lt (omega arith) (omega arith) e4 (least_from f 4 lt (below_more (λ k. reads_back k f ≡ false) 3 (below_more (λ k. reads_back k f ≡ false) 2 (below_more (λ k. reads_back k f ≡ false) 1 (none_below (λ k. reads_back k f ≡ false)) e1) e2) e3))
-fewest_digits_chosen f lt false false false false e1 e2 e3 e4 = best_at f 5 lt (omega arith) (omega arith) (eq-eqb _ _ (nearest_five_digits_read_back f lt)) (least_from f 5 lt (below_more (λ k. reads_back k f ≡ false) 4 (below_more (λ k. reads_back k f ≡ false) 3 (below_more (λ k. reads_back k f ≡ false) 2 (below_more (λ k. reads_back k f ≡ false) 1 (none_below (λ k. reads_back k f ≡ false)) e1) e2) e3) e4))
+fewest_digits_chosen f lt false true b3 b4 e1 e2 e3 e4 =
+    best_at f 2 lt (omega arith) (omega arith) e2 (least_from f 2 lt (below_more (λ k. reads_back k f ≡ false) 1 (none_below (λ k. reads_back k f
+    ≡ false)) e1))
+fewest_digits_chosen f lt false false true b4 e1 e2 e3 e4 =
+    best_at f 3 lt (omega arith) (omega arith) e3 (least_from f 3 lt (below_more (λ k. reads_back k f ≡ false) 2 (below_more (λ k. reads_back k f
+    ≡ false) 1 (none_below (λ k. reads_back k f ≡ false)) e1) e2))
+fewest_digits_chosen f lt false false false true e1 e2 e3 e4 =
+    best_at f 4 lt (omega arith) (omega arith) e4 (least_from f 4 lt (below_more (λ k. reads_back k f ≡ false) 3 (below_more (λ k. reads_back k f
+    ≡ false) 2 (below_more (λ k. reads_back k f ≡ false) 1 (none_below (λ k. reads_back k f ≡ false)) e1) e2) e3))
+fewest_digits_chosen f lt false false false false e1 e2 e3 e4 =
+    best_at f 5 lt (omega arith) (omega arith) (eq-eqb _ _ (nearest_five_digits_read_back f lt)) (least_from f 5 lt (below_more (λ k. reads_back k f
+    ≡ false) 4 (below_more (λ k. reads_back k f ≡ false) 3 (below_more (λ k. reads_back k f ≡ false) 2 (below_more (λ k. reads_back k f
+    ≡ false) 1 (none_below (λ k. reads_back k f ≡ false)) e1) e2) e3) e4))
 
 pub is_best : (f : ℕ) → f < 65536 → IsBest f (fewest_digits f) (nearest_digits (fewest_digits f) f)
 is_best f lt = fewest_digits_chosen f lt (reads_back 1 f) (reads_back 2 f) (reads_back 3 f) (reads_back 4 f) refl refl refl refl

@@ -1,5 +1,6 @@
 -- The whole part of a length is divided first, and its remainder carried.
-use Rattle.std.proofs.Common.{◌≡◌, ℕ, zero, suc, ℤ, pos, negsuc, neg_ℤ, ◌+ℤ◌, ◌*ℤ◌, int_div, unsigned_abs, ◌+◌, ◌*◌, ◌/◌, ◌%◌, ◌^◌, ◌<◌, ◌≤◌, refl, sym, ap, ◌∙◌, arith}
+use Rattle.std.proofs.Common.{◌≡◌, ℕ, zero, suc, ℤ, pos, negsuc, neg_ℤ, ◌+ℤ◌, ◌*ℤ◌, int_div, unsigned_abs, ◌+◌, ◌*◌, ◌/◌, ◌%◌, ◌^◌, ◌<◌, ◌≤◌, refl}
+use Rattle.std.proofs.Common.{sym, ap, ◌∙◌, arith}
 use Rattle.std.proofs.Math.Nat.{mul-add-div, div-add-mod, div-le_self, mul-le-mul_right}
 use Rattle.std.proofs.lemmas.Int.{ints}
 use Rattle.tk_num.specs.Number.{IsWhole, IsFraction, product}
@@ -46,7 +47,8 @@ font_parts i f (negsuc n) =
     ∙ ap (λ m. neg_ℤ (pos m)) (parts_sum i f (suc n))
     ∙ sym (quotient_neg ((65536 * i + f) * suc n))
 
-pub font_length : (w f u : ℤ) → IsWhole w → IsFraction f → w *ℤ u +ℤ int_div (f *ℤ u) (pos 65536) ≡ product (pos (65536 * unsigned_abs w + unsigned_abs f)) u
+pub font_length : (w f u : ℤ) → IsWhole w → IsFraction f
+    → w *ℤ u +ℤ int_div (f *ℤ u) (pos 65536) ≡ product (pos (65536 * unsigned_abs w + unsigned_abs f)) u
 font_length w f u h k =
     ap (λ z. z *ℤ u +ℤ int_div (f *ℤ u) (pos 65536)) (abs_whole w h)
     ∙ ap (λ z. pos (unsigned_abs w) *ℤ u +ℤ int_div (z *ℤ u) (pos 65536)) (abs_fraction f k)

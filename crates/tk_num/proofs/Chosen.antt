@@ -1,5 +1,6 @@
 -- The text that is found is the choice among all texts.
-use Rattle.std.proofs.Common.{◌≡◌, ℕ, ◌+◌, ◌-◌, ◌*◌, ◌/◌, ◌%◌, ◌^◌, ◌<◌, ◌≤◌, Bool, true, false, eqb, ltb, lt-ltb, List, ◌∷◌, ◌++◌, length, ℤ, unsigned_abs, refl, sym, ap, subst, ◌∙◌, arith, append_assoc, ◌≢◌, eq-eqb, eqb-true}
+use Rattle.std.proofs.Common.{◌≡◌, ℕ, ◌+◌, ◌-◌, ◌*◌, ◌/◌, ◌%◌, ◌^◌, ◌<◌, ◌≤◌, Bool, true, false, eqb, ltb, lt-ltb, List, ◌∷◌, ◌++◌, length, ℤ}
+use Rattle.std.proofs.Common.{unsigned_abs, refl, sym, ap, subst, ◌∙◌, arith, append_assoc, ◌≢◌, eq-eqb, eqb-true}
 use Rattle.std.proofs.lemmas.Bool.Decides.{nat_tests}
 use Rattle.tk_num.proofs.Printed.{text-whole, text-pointed}
 use Rattle.std.specs.List.{list_all}
@@ -8,9 +9,12 @@ use Rattle.std.specs.Str.Parse.{digits_value}
 use Rattle.std.specs.Fmt.{decimal}
 use Rattle.std.proofs.lemmas.Int.Digits.{digits_value-lt}
 use Rattle.tk_num.specs.Number.{nearest_65536th, whole_digits, part_digits, is_decimal, decimal_value, fraction_of}
-use Rattle.tk_num.specs.Text.{IsPointed, ReadsBack, IsChosen, IsBest, ReadsAs, IsTextOf, IsPointedTextOf, distance, distance_from, places, number_without_point, fixed_digits, fewest_digits, nearest_digits, part_text, sign_text, pointed_text, text_of, is_lone_zero, without_zero}
+use Rattle.tk_num.specs.Text.{IsPointed, ReadsBack, IsChosen, IsBest, ReadsAs, IsTextOf, IsPointedTextOf, distance, distance_from, places}
+use Rattle.tk_num.specs.Text.{number_without_point, fixed_digits, fewest_digits, nearest_digits, part_text, sign_text, pointed_text, text_of}
+use Rattle.tk_num.specs.Text.{is_lone_zero, without_zero}
 use Rattle.tk_num.proofs.Best.{is_best, by_count}
-use Rattle.tk_num.proofs.Fixed.{and_is_both, digits_are_ascii, are_digits, fixed_all, length-fixed, value-fixed, fraction-fixed, fraction_is, decimal_all, decimal_some, value-decimal, no_needless_zero, value-append, whole-joined, part-joined}
+use Rattle.tk_num.proofs.Fixed.{and_is_both, digits_are_ascii, are_digits, fixed_all, length-fixed, value-fixed, fraction-fixed, fraction_is}
+use Rattle.tk_num.proofs.Fixed.{decimal_all, decimal_some, value-decimal, no_needless_zero, value-append, whole-joined, part-joined}
 
 -- ---- what any text with a point says
 
@@ -22,7 +26,8 @@ whole_passes text e = (and_is_both (list_all is_ascii_digit (whole_digits text))
 
 -- one to five digits never come to a whole
 pub no_carry : (k d : ℕ) → 1 ≤ k → k ≤ 5 → d < 10 ^ k → nearest_65536th k d < 65536
-no_carry k d low high = by_count (λ n. d < 10 ^ n → nearest_65536th n d < 65536) (λ lt. omega arith) (λ lt. omega arith) (λ lt. omega arith) (λ lt. omega arith) (λ lt. omega arith) k low high
+no_carry k d low high = by_count (λ n. d < 10 ^ n → nearest_65536th n d < 65536) (λ lt. omega arith) (λ lt. omega arith) (λ lt. omega arith)
+    (λ lt. omega arith) (λ lt. omega arith) k low high
 
 -- a text that reads back has the whole part, and digits that read as the fraction
 pub record Splits (n : ℕ) (text : List ℕ) : Type 0 where
@@ -35,9 +40,11 @@ text_splits n text r =
     let all = are_digits (part_digits text) (part_passes text r.pointed.digits) in
     let below : digits_value 10 (part_digits text) < 10 ^ places text = digits_value-lt 10 (part_digits text) all in
     let most : places text ≤ 5 = r.pointed.most in
-    let part : fraction_of (part_digits text) ≡ nearest_65536th (places text) (digits_value 10 (part_digits text)) = fraction_is (part_digits text) (omega arith) in
+    let part : fraction_of (part_digits text) ≡ nearest_65536th (places text) (digits_value 10 (part_digits text)) = fraction_is (part_digits text)
+            (omega arith) in
     let small = no_carry (places text) (digits_value 10 (part_digits text)) r.pointed.some most below in
-    let value : 65536 * digits_value 10 (whole_digits text) + nearest_65536th (places text) (digits_value 10 (part_digits text)) ≡ n = ap (λ k. 65536 * digits_value 10 (whole_digits text) + k) (sym part) ∙ r.value in
+    let value : 65536 * digits_value 10 (whole_digits text) + nearest_65536th (places text) (digits_value 10 (part_digits text))
+            ≡ n = ap (λ k. 65536 * digits_value 10 (whole_digits text) + k) (sym part) ∙ r.value in
     let whole : digits_value 10 (whole_digits text) ≡ n / 65536 = quotient_is _ _ _ value small in
     let rest : nearest_65536th (places text) (digits_value 10 (part_digits text)) ≡ n % 65536 = rest_is _ _ _ value small in
     record {
@@ -56,11 +63,14 @@ text_splits n text r =
 distance-shift : (k w d n : ℕ) → w ≡ n / 65536 → distance k (w * 10 ^ k + d) n ≡ distance k d (n % 65536)
 distance-shift k w d n e = by_power (10 ^ k) w d n (n % 65536) (omega arith)
   where
-    by_power : (p w d n f : ℕ) → n ≡ 65536 * w + f → (65536 * (w * p + d) - p * n) + (p * n - 65536 * (w * p + d)) ≡ (65536 * d - p * f) + (p * f - 65536 * d)
+    by_power : (p w d n f : ℕ) → n ≡ 65536 * w + f
+        → (65536 * (w * p + d) - p * n) + (p * n - 65536 * (w * p + d)) ≡ (65536 * d - p * f) + (p * f - 65536 * d)
     by_power p w d n f e = rw e (omega arith)
 
-pub distance_of : (n : ℕ) (text : List ℕ) → Splits n text → distance (places text) (number_without_point text) n ≡ distance (places text) (digits_value 10 (part_digits text)) (n % 65536)
-distance_of n text s = ap (λ m. distance (places text) m n) s.number ∙ distance-shift (places text) (n / 65536) (digits_value 10 (part_digits text)) n refl
+pub distance_of : (n : ℕ) (text : List ℕ) → Splits n text
+    → distance (places text) (number_without_point text) n ≡ distance (places text) (digits_value 10 (part_digits text)) (n % 65536)
+distance_of n text s =
+    ap (λ m. distance (places text) m n) s.number ∙ distance-shift (places text) (n / 65536) (digits_value 10 (part_digits text)) n refl
 
 -- ---- the text that is found
 
@@ -74,7 +84,8 @@ whole-size n lt = whole-joined (decimal (n / 65536)) (part_text (n % 65536)) (di
 pub part-size : (n : ℕ) → n < 2 ^ 64 → part_digits (size_text n) ≡ part_text (n % 65536)
 part-size n lt = part-joined (decimal (n / 65536)) (part_text (n % 65536)) (digits_are_ascii _ (decimal_all (n / 65536) (omega arith)))
 
-decimal_when : (text whole part : List ℕ) → whole_digits text ≡ whole → part_digits text ≡ part → list_all is_ascii_digit whole ≡ true → list_all is_ascii_digit part ≡ true → 0 < length whole → is_decimal text ≡ true
+decimal_when : (text whole part : List ℕ) → whole_digits text ≡ whole → part_digits text ≡ part → list_all is_ascii_digit whole ≡ true
+    → list_all is_ascii_digit part ≡ true → 0 < length whole → is_decimal text ≡ true
 decimal_when text whole part e p a b some =
     let any : ltb 0 (length whole + length part) ≡ true = lt-ltb 0 (length whole + length part) (omega arith) in
     rw (e, p, a, b, any) refl
@@ -86,7 +97,8 @@ best_of : (n : ℕ) → IsBest (n % 65536) (fewest_digits (n % 65536)) (nearest_
 best_of n = is_best (n % 65536) (omega arith)
 
 part_value : (n : ℕ) → n < 2 ^ 64 → digits_value 10 (part_digits (size_text n)) ≡ nearest_digits (fewest_digits (n % 65536)) (n % 65536)
-part_value n lt = ap (λ ds. digits_value 10 ds) (part-size n lt) ∙ value-fixed (fewest_digits (n % 65536)) (nearest_digits (fewest_digits (n % 65536)) (n % 65536)) (best_of n).reads.digits
+part_value n lt = ap (λ ds. digits_value 10 ds) (part-size n lt) ∙ value-fixed (fewest_digits (n % 65536)) (nearest_digits (fewest_digits (n % 65536))
+    (n % 65536)) (best_of n).reads.digits
 
 pointed_size : (n : ℕ) → n < 2 ^ 64 → IsPointed (size_text n)
 pointed_size n lt =
@@ -94,7 +106,10 @@ pointed_size n lt =
     let small : w < 2 ^ 64 = omega arith in
     let best = (best_of n).reads in
     record {
-      digits = decimal_when (size_text n) (decimal w) (part_text (n % 65536)) (whole-size n lt) (part-size n lt) (digits_are_ascii _ (decimal_all w small)) (digits_are_ascii (fixed_digits (fewest_digits (n % 65536)) (nearest_digits (fewest_digits (n % 65536)) (n % 65536))) (fixed_all (fewest_digits (n % 65536)) (nearest_digits (fewest_digits (n % 65536)) (n % 65536)))) (decimal_some w small);
+      digits = decimal_when (size_text n) (decimal w) (part_text (n % 65536)) (whole-size n lt) (part-size n lt)
+          (digits_are_ascii _ (decimal_all w small)) (digits_are_ascii (fixed_digits (fewest_digits (n % 65536))
+          (nearest_digits (fewest_digits (n % 65536)) (n % 65536))) (fixed_all (fewest_digits (n % 65536)) (nearest_digits (fewest_digits (n % 65536))
+          (n % 65536)))) (decimal_some w small);
       point = sym (ap (λ ds. ds ++ 46 ∷ part_digits (size_text n)) (whole-size n lt) ∙ ap (λ ds. decimal w ++ 46 ∷ ds) (part-size n lt));
       whole = (let some = decimal_some w small in omega (arith, ap length (whole-size n lt), some));
       needed = λ rest h. no_needless_zero w rest small (sym (whole-size n lt) ∙ h);
@@ -110,7 +125,8 @@ value-size n lt =
     ap (λ ds. 65536 * digits_value 10 ds + fraction_of (part_digits (size_text n))) (whole-size n lt)
     ∙ ap (λ ds. 65536 * digits_value 10 (decimal w) + fraction_of ds) (part-size n lt)
     ∙ ap (λ v. 65536 * v + fraction_of (part_text f)) (value-decimal w (omega arith))
-    ∙ ap (λ v. 65536 * w + v) (fraction-fixed (fewest_digits f) (nearest_digits (fewest_digits f) f) (omega (arith, best.most)) best.digits ∙ best.reads)
+    ∙ ap (λ v. 65536 * w + v) (fraction-fixed (fewest_digits f) (nearest_digits (fewest_digits f) f) (omega (arith, best.most)) best.digits
+        ∙ best.reads)
     ∙ omega arith
 
 pub size_reads : (n : ℕ) → n < 2 ^ 64 → ReadsBack n (size_text n)
@@ -145,14 +161,16 @@ size_chosen n lt =
     let far : distance_from n t ≡ distance k m f = mine.far ∙ ap (λ d. distance k d f) (part_value n lt) in
     record {
       reads = size_reads n lt;
-      fewest = λ other r. (let least = best.fewest (places other) (digits_value 10 (part_digits other)) (text_splits n other r).part in omega (arith, here, least));
+      fewest = λ other r. (let least = best.fewest (places other) (digits_value 10 (part_digits other)) (text_splits n other r).part in omega
+          (arith, here, least));
       nearest = λ other r same.
           (let o = at_places n k other r (same ∙ here) in
           le_through _ _ _ _ far o.far (best.nearest (digits_value 10 (part_digits other)) o.reads));
       greatest = λ other r same eq.
           (let o = at_places n k other r (same ∙ here) in
           let tie : distance k m f ≡ distance k (digits_value 10 (part_digits other)) f = sym far ∙ eq ∙ o.far in
-          greater (n / 65536 * 10 ^ k) m (digits_value 10 (part_digits other)) (number_without_point t) (number_without_point other) (mine.number ∙ ap (λ d. n / 65536 * 10 ^ k + d) (part_value n lt)) o.number (best.greatest (digits_value 10 (part_digits other)) o.reads tie));
+          greater (n / 65536 * 10 ^ k) m (digits_value 10 (part_digits other)) (number_without_point t) (number_without_point other) (mine.number
+              ∙ ap (λ d. n / 65536 * 10 ^ k + d) (part_value n lt)) o.number (best.greatest (digits_value 10 (part_digits other)) o.reads tie));
     }
 
 -- ---- the texts with their sign
@@ -187,7 +205,8 @@ without-none n lt e =
 
 without-some : (n : ℕ) → n < 2 ^ 64 → n % 65536 ≢ 0 → without_zero (size_text n) ≡ size_text n
 without-some n lt ne =
-    let lone : is_lone_zero (part_digits (size_text n)) ≡ false = ap is_lone_zero (part-size n lt) ∙ some_digits (n % 65536) _ _ ne (best_of n).reads in
+    let lone : is_lone_zero (part_digits (size_text n)) ≡ false = ap is_lone_zero (part-size n lt) ∙ some_digits (n % 65536) _ _ ne (best_of n).reads
+            in
     rw lone refl
 
 pub text-is : (z : ℤ) → unsigned_abs z < 2 ^ 64 → text_of z ≡ sign_text z ++ without_zero (size_text (unsigned_abs z))
@@ -199,7 +218,8 @@ text-is z lt = by_test (eqb (unsigned_abs z % 65536) 0) refl
         sym (text-whole z none) ∙ ap (λ ds. sign_text z ++ ds) (sym (without-none (unsigned_abs z) lt none))
     by_test false t =
         let some : unsigned_abs z % 65536 ≢ 0 = λ e. absurd (let yes = eq-eqb _ _ e in cc) in
-        sym (text-pointed z some) ∙ append_assoc (sign_text z) (decimal (unsigned_abs z / 65536)) (46 ∷ part_text (unsigned_abs z % 65536)) ∙ ap (λ ds. sign_text z ++ ds) (sym (without-some (unsigned_abs z) lt some))
+        sym (text-pointed z some) ∙ append_assoc (sign_text z) (decimal (unsigned_abs z / 65536)) (46 ∷ part_text (unsigned_abs z % 65536))
+            ∙ ap (λ ds. sign_text z ++ ds) (sym (without-some (unsigned_abs z) lt some))
 
 pub is_text : (z : ℤ) → unsigned_abs z < 2 ^ 64 → IsTextOf z (text_of z)
 is_text z lt = record {

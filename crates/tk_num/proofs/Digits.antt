@@ -21,7 +21,8 @@ pub digit_at : (ds : List ℕ) (i : ℕ) → list_all is_ascii_digit ds ≡ true
 digit_at ds i all lt = true_from_ne_false _ (λ e. let f = list_all_at is_ascii_digit ds i 0 lt e in cc)
 
 -- the number of one digit more
-pub value_more : (ds : List ℕ) (i : ℕ) → i < length ds → is_ascii_digit (get_or ds i 0) ≡ true → digits_value 10 (take (i + 1) ds) ≡ digits_value 10 (take i ds) * 10 + (get_or ds i 0 - 48)
+pub value_more : (ds : List ℕ) (i : ℕ) → i < length ds → is_ascii_digit (get_or ds i 0) ≡ true
+    → digits_value 10 (take (i + 1) ds) ≡ digits_value 10 (take i ds) * 10 + (get_or ds i 0 - 48)
 value_more ds i lt d = digits_value_more 10 ds i lt ∙ ap (λ x. digits_value 10 (take i ds) * 10 + x) (digit_value_of _ d)
 
 -- the bound of one digit more
@@ -42,7 +43,8 @@ pub value_bound : (ds : List ℕ) (i most : ℕ) → most < digits_value 10 (tak
 value_bound ds i most lt = omega (arith, digits_value-take-le 10 ds i (omega arith))
 
 -- one digit more
-pub all_more : (ds : List ℕ) (i : ℕ) → i < length ds → list_all is_ascii_digit (take i ds) ≡ true → is_ascii_digit (get_or ds i 0) ≡ true → list_all is_ascii_digit (take (i + 1) ds) ≡ true
+pub all_more : (ds : List ℕ) (i : ℕ) → i < length ds → list_all is_ascii_digit (take i ds) ≡ true → is_ascii_digit (get_or ds i 0) ≡ true
+    → list_all is_ascii_digit (take (i + 1) ds) ≡ true
 all_more ds i lt all d = rw (list_all_more is_ascii_digit ds i 0 lt) (rw all d)
 
 pub bounds_at : (ds : List ℕ) (i : ℕ) → list_all is_ascii_digit ds ≡ true → i < length ds → (48 ≤ get_or ds i 0) × (get_or ds i 0 ≤ 57)

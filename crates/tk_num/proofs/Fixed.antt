@@ -1,5 +1,6 @@
 -- Digits: n digits that write a number, and the two parts of a text with a point.
-use Rattle.std.proofs.Common.{◌≡◌, ℕ, zero, suc, ◌+◌, ◌*◌, ◌/◌, ◌%◌, ◌^◌, ◌<◌, ◌≤◌, Bool, true, false, ◌&&◌, List, [], ◌∷◌, ◌++◌, length, refl, sym, ap, subst, ◌∙◌, arith, length-append}
+use Rattle.std.proofs.Common.{◌≡◌, ℕ, zero, suc, ◌+◌, ◌*◌, ◌/◌, ◌%◌, ◌^◌, ◌<◌, ◌≤◌, Bool, true, false, ◌&&◌, List, [], ◌∷◌, ◌++◌, length, refl, sym}
+use Rattle.std.proofs.Common.{ap, subst, ◌∙◌, arith, length-append}
 use Rattle.std.specs.List.{list_all, position_or_len}
 use Rattle.std.specs.Char.{is_ascii_digit, digit_value}
 use Rattle.std.specs.Str.Parse.{digits_value, digits_value_after, AllDigits}
@@ -21,7 +22,8 @@ glyph_value d lt = grind (arith, nat_tests)
 
 pub fixed_all : (n m : ℕ) → AllDigits 10 (fixed_digits n m)
 fixed_all zero m = tt
-fixed_all (suc n) m = digits_push 10 (fixed_digits n (m / 10)) (48 + m % 10) (fixed_all n (m / 10)) (rw (glyph_value (m % 10) (omega arith)) (omega arith))
+fixed_all (suc n) m =
+    digits_push 10 (fixed_digits n (m / 10)) (48 + m % 10) (fixed_all n (m / 10)) (rw (glyph_value (m % 10) (omega arith)) (omega arith))
 
 pub length-fixed : (n m : ℕ) → length (fixed_digits n m) ≡ n
 length-fixed zero m = refl

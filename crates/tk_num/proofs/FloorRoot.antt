@@ -1,5 +1,6 @@
 -- The root that is cut downward.
-use Rattle.std.proofs.Common.{◌≡◌, ℕ, zero, suc, ◌+◌, ◌*◌, ◌<◌, ◌≤◌, Bool, true, false, leb, cond, refl, ap, arith, inl, inr, ℤ, pos, negsuc, unsigned_abs, Ok}
+use Rattle.std.proofs.Common.{◌≡◌, ℕ, zero, suc, ◌+◌, ◌*◌, ◌<◌, ◌≤◌, Bool, true, false, leb, cond, refl, ap, arith, inl, inr, ℤ, pos, negsuc}
+use Rattle.std.proofs.Common.{unsigned_abs, Ok}
 use Rattle.std.proofs.lemmas.Bool.{cases_lt, leb-true, leb-false, le-leb}
 use Rattle.std.specs.Int.Signed.{lt_z}
 use Rattle.std.proofs.Math.Nat.{mul-le-mul_left, mul-le-mul_right}

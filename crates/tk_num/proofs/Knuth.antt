@@ -1,5 +1,6 @@
 -- TeX's loop for the digits of a fraction: what it knows at each digit.
-use Rattle.std.proofs.Common.{◌≡◌, ◌≢◌, ℕ, zero, suc, ◌+◌, ◌-◌, ◌*◌, ◌/◌, ◌%◌, ◌^◌, ◌<◌, ◌≤◌, true, false, cond, eqb, List, [], ◌∷◌, ◌++◌, length, refl, sym, ap, subst, ◌∙◌, arith, ltb, append_assoc, eq-eqb, append-nil, length-append, inl, inr}
+use Rattle.std.proofs.Common.{◌≡◌, ◌≢◌, ℕ, zero, suc, ◌+◌, ◌-◌, ◌*◌, ◌/◌, ◌%◌, ◌^◌, ◌<◌, ◌≤◌, true, false, cond, eqb, List, [], ◌∷◌, ◌++◌, length}
+use Rattle.std.proofs.Common.{refl, sym, ap, subst, ◌∙◌, arith, ltb, append_assoc, eq-eqb, append-nil, length-append, inl, inr}
 use Rattle.std.proofs.Math.Nat.{pow-suc}
 use Rattle.std.proofs.lemmas.Bool.{cases_lt}
 use Rattle.std.proofs.lemmas.Bool.Decides.{nat_tests}
@@ -29,16 +30,20 @@ next_rest : (p : ℕ) → 5 * ((10 * p) % 131072) ≡ 10 * ((5 * (p % 131072)) %
 next_rest p = omega arith
 
 -- where the loop ends, the digits read back, and no others do
-one_digit_reads_back : (f : ℕ) → 5 * (scaled_up 1 f % 131072) ≤ 100 → (nearest_65536th 1 (nearest_digits 1 f) ≡ f) × (scaled_up 1 f / 131072 ≡ nearest_digits 1 f)
+one_digit_reads_back : (f : ℕ) → 5 * (scaled_up 1 f % 131072) ≤ 100
+    → (nearest_65536th 1 (nearest_digits 1 f) ≡ f) × (scaled_up 1 f / 131072 ≡ nearest_digits 1 f)
 one_digit_reads_back f le = (omega arith, omega arith)
 
-two_digits_read_back : (f : ℕ) → 5 * (scaled_up 2 f % 131072) ≤ 1000 → (nearest_65536th 2 (nearest_digits 2 f) ≡ f) × (scaled_up 2 f / 131072 ≡ nearest_digits 2 f)
+two_digits_read_back : (f : ℕ) → 5 * (scaled_up 2 f % 131072) ≤ 1000
+    → (nearest_65536th 2 (nearest_digits 2 f) ≡ f) × (scaled_up 2 f / 131072 ≡ nearest_digits 2 f)
 two_digits_read_back f le = (omega arith, omega arith)
 
-three_digits_read_back : (f : ℕ) → 5 * (scaled_up 3 f % 131072) ≤ 10000 → (nearest_65536th 3 (nearest_digits 3 f) ≡ f) × (scaled_up 3 f / 131072 ≡ nearest_digits 3 f)
+three_digits_read_back : (f : ℕ) → 5 * (scaled_up 3 f % 131072) ≤ 10000
+    → (nearest_65536th 3 (nearest_digits 3 f) ≡ f) × (scaled_up 3 f / 131072 ≡ nearest_digits 3 f)
 three_digits_read_back f le = (omega arith, omega arith)
 
-four_digits_read_back : (f : ℕ) → 5 * (scaled_up 4 f % 131072) ≤ 100000 → (nearest_65536th 4 (nearest_digits 4 f) ≡ f) × (scaled_up 4 f / 131072 ≡ nearest_digits 4 f)
+four_digits_read_back : (f : ℕ) → 5 * (scaled_up 4 f % 131072) ≤ 100000
+    → (nearest_65536th 4 (nearest_digits 4 f) ≡ f) × (scaled_up 4 f / 131072 ≡ nearest_digits 4 f)
 four_digits_read_back f le = (omega arith, omega arith)
 
 one_digit_is_too_few : (f : ℕ) → 100 < 5 * (scaled_up 1 f % 131072) → nearest_65536th 1 (nearest_digits 1 f) ≢ f
@@ -54,7 +59,8 @@ four_digits_are_too_few : (f : ℕ) → 100000 < 5 * (scaled_up 4 f % 131072) �
 four_digits_are_too_few f lt e = omega arith
 
 -- the fifth digit, rounded
-fifth_digit_is_nearest : (f : ℕ) → 100000 < 5 * (scaled_up 4 f % 131072) → 10 * (scaled_up 4 f / 131072) + (5 * (scaled_up 4 f % 131072) + 32768 - 50000) / 65536 ≡ nearest_digits 5 f
+fifth_digit_is_nearest : (f : ℕ) → 100000 < 5 * (scaled_up 4 f % 131072)
+    → 10 * (scaled_up 4 f / 131072) + (5 * (scaled_up 4 f % 131072) + 32768 - 50000) / 65536 ≡ nearest_digits 5 f
 fifth_digit_is_nearest f lt = omega arith
 
 -- one to four
@@ -66,10 +72,13 @@ by_place P p1 p2 p3 p4 (suc (suc (suc zero))) low high = p3
 by_place P p1 p2 p3 p4 (suc (suc (suc (suc zero)))) low high = p4
 by_place P p1 p2 p3 p4 (suc (suc (suc (suc (suc n))))) low high = absurd (omega arith)
 
-few_digits_read_back : (k f : ℕ) → 1 ≤ k → k ≤ 4 → 5 * (scaled_up k f % 131072) ≤ 10 ^ suc k → (reads_back k f ≡ true) × (scaled_up k f / 131072 ≡ nearest_digits k f)
+few_digits_read_back : (k f : ℕ) → 1 ≤ k → k ≤ 4 → 5 * (scaled_up k f % 131072) ≤ 10 ^ suc k
+    → (reads_back k f ≡ true) × (scaled_up k f / 131072 ≡ nearest_digits k f)
 few_digits_read_back k f low high =
     by_place (λ n. 5 * (scaled_up n f % 131072) ≤ 10 ^ suc n → (reads_back n f ≡ true) × (scaled_up n f / 131072 ≡ nearest_digits n f))
-    (λ le. (eq-eqb _ _ (one_digit_reads_back f le).0, (one_digit_reads_back f le).1)) (λ le. (eq-eqb _ _ (two_digits_read_back f le).0, (two_digits_read_back f le).1)) (λ le. (eq-eqb _ _ (three_digits_read_back f le).0, (three_digits_read_back f le).1)) (λ le. (eq-eqb _ _ (four_digits_read_back f le).0, (four_digits_read_back f le).1))
+    (λ le. (eq-eqb _ _ (one_digit_reads_back f le).0, (one_digit_reads_back f le).1)) (λ le. (eq-eqb _ _ (two_digits_read_back f le).0,
+        (two_digits_read_back f le).1)) (λ le. (eq-eqb _ _ (three_digits_read_back f le).0, (three_digits_read_back f le).1))
+        (λ le. (eq-eqb _ _ (four_digits_read_back f le).0, (four_digits_read_back f le).1))
     k low high
 
 not_eqb : (m n : ℕ) → m ≢ n → eqb m n ≡ false
@@ -78,7 +87,8 @@ not_eqb m n ne = grind (arith, nat_tests)
 few_digits_are_too_few : (k f : ℕ) → 1 ≤ k → k ≤ 4 → 10 ^ suc k < 5 * (scaled_up k f % 131072) → reads_back k f ≡ false
 few_digits_are_too_few k f low high =
     by_place (λ n. 10 ^ suc n < 5 * (scaled_up n f % 131072) → reads_back n f ≡ false)
-    (λ lt. not_eqb _ _ (one_digit_is_too_few f lt)) (λ lt. not_eqb _ _ (two_digits_are_too_few f lt)) (λ lt. not_eqb _ _ (three_digits_are_too_few f lt)) (λ lt. not_eqb _ _ (four_digits_are_too_few f lt))
+    (λ lt. not_eqb _ _ (one_digit_is_too_few f lt)) (λ lt. not_eqb _ _ (two_digits_are_too_few f lt))
+        (λ lt. not_eqb _ _ (three_digits_are_too_few f lt)) (λ lt. not_eqb _ _ (four_digits_are_too_few f lt))
     k low high
 
 -- the fewest digits are those that are found first
@@ -92,7 +102,8 @@ fewest_is k f low high =
     k low high
 
 five_digits_are_fewest : (f : ℕ) → ((j : ℕ) → 1 ≤ j → j ≤ 4 → reads_back j f ≡ false) → fewest_digits f ≡ 5
-five_digits_are_fewest f none = rw (none 1 (omega arith) (omega arith), none 2 (omega arith) (omega arith), none 3 (omega arith) (omega arith), none 4 (omega arith) (omega arith)) refl
+five_digits_are_fewest f none = rw (none 1 (omega arith) (omega arith), none 2 (omega arith) (omega arith), none 3 (omega arith) (omega arith),
+    none 4 (omega arith) (omega arith)) refl
 
 scaled-more : (k f : ℕ) → scaled_up (suc k) f ≡ 10 * scaled_up k f
 scaled-more k f = rw (pow-suc 10 k) (omega arith)
@@ -104,8 +115,10 @@ digit_more n m q d e le =
     let last : m % 10 ≡ d = omega arith in
     rw (front, last) refl
 
-digit_out : (n m q d : ℕ) (before now : List ℕ) → now ≡ before ++ fixed_digits n q → m ≡ 10 * q + d → d ≤ 9 → now ++ (48 + d) ∷ [] ≡ before ++ fixed_digits (suc n) m
-digit_out n m q d before now done e le = rw done (append_assoc before (fixed_digits n q) ((48 + d) ∷ []) ∙ ap (λ ds. before ++ ds) (digit_more n m q d e le))
+digit_out : (n m q d : ℕ) (before now : List ℕ) → now ≡ before ++ fixed_digits n q → m ≡ 10 * q + d → d ≤ 9
+    → now ++ (48 + d) ∷ [] ≡ before ++ fixed_digits (suc n) m
+digit_out n m q d before now done e le =
+    rw done (append_assoc before (fixed_digits n q) ((48 + d) ∷ []) ∙ ap (λ ds. before ++ ds) (digit_more n m q d e le))
 
 pub first_digit : (f : ℕ) (before : List ℕ) → f < 65536 → AtDigit f before before (10 * f + 5) 10
 first_digit f before lt = record {
@@ -152,7 +165,9 @@ power_more k delta e = rw e (sym (pow-suc 10 (suc k)))
 part_is : (f k : ℕ) → fewest_digits f ≡ k → fixed_digits k (nearest_digits k f) ≡ part_text f
 part_is f k e = rw e refl
 
-short_stop : (f k s delta : ℕ) (before now : List ℕ) → k < 4 → delta ≡ 10 ^ suc k → now ≡ before ++ fixed_digits k (scaled_up k f / 131072) → s ≡ 5 * (scaled_up k f % 131072) → ((j : ℕ) → 1 ≤ j → j ≤ k → reads_back j f ≡ false) → 10 * (s % 65536) ≤ delta * 10 → now ++ (48 + s / 65536) ∷ [] ≡ before ++ part_text f
+short_stop : (f k s delta : ℕ) (before now : List ℕ) → k < 4 → delta ≡ 10 ^ suc k → now ≡ before ++ fixed_digits k (scaled_up k f / 131072)
+    → s ≡ 5 * (scaled_up k f % 131072) → ((j : ℕ) → 1 ≤ j → j ≤ k → reads_back j f ≡ false) → 10 * (s % 65536) ≤ delta * 10
+    → now ++ (48 + s / 65536) ∷ [] ≡ before ++ part_text f
 short_stop f k s delta before now few delta_is done e none le =
     let after : 5 * (scaled_up (suc k) f % 131072) ≤ 10 ^ suc (suc k) = omega (arith, rest_is k f s e, power_more k delta delta_is, le) in
     let end = few_digits_read_back (suc k) f (omega arith) (omega arith) after in
@@ -161,12 +176,15 @@ short_stop f k s delta before now few delta_is done e none le =
     ∙ ap (λ m. before ++ fixed_digits (suc k) m) end.1
     ∙ ap (λ ds. before ++ ds) (part_is f (suc k) fewest)
 
-last_stop : (f s : ℕ) (before now : List ℕ) → now ≡ before ++ fixed_digits 4 (scaled_up 4 f / 131072) → s ≡ 5 * (scaled_up 4 f % 131072) + 32768 - 50000 → 100000 < 5 * (scaled_up 4 f % 131072) → ((j : ℕ) → 1 ≤ j → j ≤ 4 → reads_back j f ≡ false) → now ++ (48 + s / 65536) ∷ [] ≡ before ++ part_text f
+last_stop : (f s : ℕ) (before now : List ℕ) → now ≡ before ++ fixed_digits 4 (scaled_up 4 f / 131072)
+    → s ≡ 5 * (scaled_up 4 f % 131072) + 32768 - 50000 → 100000 < 5 * (scaled_up 4 f % 131072) → ((j : ℕ) → 1 ≤ j → j ≤ 4 → reads_back j f ≡ false)
+    → now ++ (48 + s / 65536) ∷ [] ≡ before ++ part_text f
 last_stop f s before now done e large none =
     digit_out 4 (nearest_digits 5 f) (scaled_up 4 f / 131072) (s / 65536) before now done (sym (rw e (fifth_digit_is_nearest f large))) (omega arith)
     ∙ ap (λ ds. before ++ ds) (part_is f 5 (five_digits_are_fewest f none))
 
-pub last_digit : (f rest delta s : ℕ) (before now : List ℕ) → AtDigit f before now rest delta → s ≡ cond (ltb 65536 delta) (rest + 32768 - 50000) rest → 10 * (s % 65536) ≤ delta * 10 → now ++ (48 + s / 65536) ∷ [] ≡ before ++ part_text f
+pub last_digit : (f rest delta s : ℕ) (before now : List ℕ) → AtDigit f before now rest delta → s ≡ cond (ltb 65536 delta) (rest + 32768 - 50000) rest
+    → 10 * (s % 65536) ≤ delta * 10 → now ++ (48 + s / 65536) ∷ [] ≡ before ++ part_text f
 last_digit f rest delta s before now a e le =
     elim (cases_lt a.count 4) [
       | inl lt ↦
@@ -177,10 +195,13 @@ last_digit f rest delta s before now a e le =
           let delta_is : delta ≡ 100000 = a.delta_is ∙ ap (λ k. 10 ^ suc k) four in
           let rest_is : rest ≡ 5 * (scaled_up 4 f % 131072) = a.rest_is ∙ ap (λ k. 5 * (scaled_up k f % 131072)) four in
           let large : delta < rest = a.large (omega arith) in
-          last_stop f s before now (a.done ∙ ap (λ k. before ++ fixed_digits k (scaled_up k f / 131072)) four) (taken_rounded delta rest s e delta_is ∙ ap (λ r. r + 32768 - 50000) rest_is) (omega arith) (λ j low high. a.shorter j low (omega arith)))
+          last_stop f s before now (a.done ∙ ap (λ k. before ++ fixed_digits k (scaled_up k f / 131072)) four) (taken_rounded delta rest s e delta_is
+              ∙ ap (λ r. r + 32768 - 50000) rest_is) (omega arith) (λ j low high. a.shorter j low (omega arith)))
     ]
 
-short_go : (f k s delta : ℕ) (before now : List ℕ) → k < 4 → delta ≡ 10 ^ suc k → now ≡ before ++ fixed_digits k (scaled_up k f / 131072) → s ≡ 5 * (scaled_up k f % 131072) → ((j : ℕ) → 1 ≤ j → j ≤ k → reads_back j f ≡ false) → delta * 10 < 10 * (s % 65536) → AtDigit f before (now ++ (48 + s / 65536) ∷ []) (10 * (s % 65536)) (delta * 10)
+short_go : (f k s delta : ℕ) (before now : List ℕ) → k < 4 → delta ≡ 10 ^ suc k → now ≡ before ++ fixed_digits k (scaled_up k f / 131072)
+    → s ≡ 5 * (scaled_up k f % 131072) → ((j : ℕ) → 1 ≤ j → j ≤ k → reads_back j f ≡ false) → delta * 10 < 10 * (s % 65536)
+    → AtDigit f before (now ++ (48 + s / 65536) ∷ []) (10 * (s % 65536)) (delta * 10)
 short_go f k s delta before now few delta_is done e none lt =
     let after : 10 ^ suc (suc k) < 5 * (scaled_up (suc k) f % 131072) = omega (arith, rest_is k f s e, power_more k delta delta_is, lt) in
     record {
@@ -193,7 +214,8 @@ short_go f k s delta before now few delta_is done e none lt =
       large = λ low. lt;
     }
 
-pub next_digit : (f rest delta s : ℕ) (before now : List ℕ) → AtDigit f before now rest delta → s ≡ cond (ltb 65536 delta) (rest + 32768 - 50000) rest → delta * 10 < 10 * (s % 65536) → AtDigit f before (now ++ (48 + s / 65536) ∷ []) (10 * (s % 65536)) (delta * 10)
+pub next_digit : (f rest delta s : ℕ) (before now : List ℕ) → AtDigit f before now rest delta → s ≡ cond (ltb 65536 delta) (rest + 32768 - 50000) rest
+    → delta * 10 < 10 * (s % 65536) → AtDigit f before (now ++ (48 + s / 65536) ∷ []) (10 * (s % 65536)) (delta * 10)
 next_digit f rest delta s before now a e lt =
     elim (cases_lt a.count 4) [
       | inl less ↦
@@ -207,7 +229,10 @@ next_digit f rest delta s before now a e lt =
 
 -- how much room the digits so far take
 pub digits_room : (f rest delta : ℕ) (before now : List ℕ) → AtDigit f before now rest delta → length now ≤ length before + 4
-digits_room f rest delta before now a = omega (arith, a.few, ap length a.done, length-append before (fixed_digits a.count (scaled_up a.count f / 131072)), length-fixed a.count (scaled_up a.count f / 131072))
+digits_room f rest delta before now a =
+    omega (arith, a.few, ap length a.done, length-append before (fixed_digits a.count (scaled_up a.count f / 131072)), length-fixed a.count
+    (scaled_up a.count f / 131072))
 
-pub digit_is_small : (f rest delta s : ℕ) (before now : List ℕ) → AtDigit f before now rest delta → s ≡ cond (ltb 65536 delta) (rest + 32768 - 50000) rest → s < 655360
+pub digit_is_small : (f rest delta s : ℕ) (before now : List ℕ) → AtDigit f before now rest delta
+    → s ≡ cond (ltb 65536 delta) (rest + 32768 - 50000) rest → s < 655360
 digit_is_small f rest delta s before now a e = let r = a.rest_is in grind (arith, nat_tests)

@@ -1,5 +1,6 @@
 -- What the printing calls put together.
-use Rattle.std.proofs.Common.{◌≡◌, ◌≢◌, ℕ, ◌+◌, ◌/◌, ◌%◌, ◌^◌, ◌<◌, ◌≤◌, Bool, true, false, eqb, List, [], ◌∷◌, ◌++◌, length, ℤ, unsigned_abs, refl, sym, ap, subst, lit<, eq-eqb, ◌∙◌, arith, append_assoc, append-nil, length-append, SFits}
+use Rattle.std.proofs.Common.{◌≡◌, ◌≢◌, ℕ, ◌+◌, ◌/◌, ◌%◌, ◌^◌, ◌<◌, ◌≤◌, Bool, true, false, eqb, List, [], ◌∷◌, ◌++◌, length, ℤ, unsigned_abs, refl}
+use Rattle.std.proofs.Common.{sym, ap, subst, lit<, eq-eqb, ◌∙◌, arith, append_assoc, append-nil, length-append, SFits}
 use Rattle.std.specs.Prelude.{negsuc, pos, IsAscii, IsUtf8}
 use Rattle.std.proofs.lemmas.Bool.{eqb-true}
 use Rattle.std.proofs.lemmas.Bool.Decides.{nat_tests}
@@ -75,14 +76,16 @@ front_ascii z lt = IsAscii-append (sign_text z) _ (sign_ascii z) (IsAscii-decima
 pointed_ascii : (z : ℤ) → unsigned_abs z < 2 ^ 64 → IsAscii (pointed_text z)
 pointed_ascii z lt =
     let part = part_ascii (unsigned_abs z % 65536) in
-    IsAscii-append (sign_text z ++ decimal (unsigned_abs z / 65536)) (46 ∷ part_text (unsigned_abs z % 65536)) (front_ascii z lt) (IsAscii-cons 46 _ (lit< tt) part)
+    IsAscii-append (sign_text z ++ decimal (unsigned_abs z / 65536)) (46 ∷ part_text (unsigned_abs z % 65536)) (front_ascii z lt)
+        (IsAscii-cons 46 _ (lit< tt) part)
 
 text_ascii : (z : ℤ) → unsigned_abs z < 2 ^ 64 → IsAscii (text_of z)
 text_ascii z lt = by_test (eqb (unsigned_abs z % 65536) 0) refl
   where
     by_test : (b : Bool) → eqb (unsigned_abs z % 65536) 0 ≡ b → IsAscii (text_of z)
     by_test true e = subst IsAscii (text-whole z (eqb-true _ _ e)) (front_ascii z lt)
-    by_test false e = subst IsAscii (text-pointed z (λ h. let t : eqb (unsigned_abs z % 65536) 0 ≡ true = eq-eqb _ _ h in absurd cc)) (pointed_ascii z lt)
+    by_test false e =
+        subst IsAscii (text-pointed z (λ h. let t : eqb (unsigned_abs z % 65536) 0 ≡ true = eq-eqb _ _ h in absurd cc)) (pointed_ascii z lt)
 
 -- so the texts are UTF-8
 pub text_utf8 : (z : ℤ) (characters : List ℕ) → unsigned_abs z < 2 ^ 64 → characters ≡ text_of z → IsUtf8 characters

@@ -1,5 +1,6 @@
 -- The table of sines rises, and never passes one.
-use Rattle.std.proofs.Common.{◌≡◌, ℕ, zero, suc, ◌+◌, ◌-◌, ◌*◌, ◌/◌, ◌%◌, ◌<◌, ◌≤◌, Bool, true, ◌&&◌, leb, List, [], ◌∷◌, length, get_or, refl, arith, add-one}
+use Rattle.std.proofs.Common.{◌≡◌, ℕ, zero, suc, ◌+◌, ◌-◌, ◌*◌, ◌/◌, ◌%◌, ◌<◌, ◌≤◌, Bool, true, ◌&&◌, leb, List, [], ◌∷◌, length, get_or, refl, arith}
+use Rattle.std.proofs.Common.{add-one}
 use Rattle.std.specs.List.{list_all}
 use Rattle.std.proofs.lemmas.Bool.{leb-true, true_from_ne_false}
 use Rattle.std.proofs.lemmas.List.Folds.{list_all_at}
@@ -35,7 +36,8 @@ pub sines_rise : (n : ℕ) → n < 90 → get_or sines n 0 ≤ get_or sines (n +
 sines_rise n lt = let r = rises_at sines n table_rises (omega (arith, table_length)) in rw (add-one n) r
 
 pub sines_within : (n : ℕ) → n ≤ 90 → get_or sines n 0 ≤ 65536
-sines_within n le = leb-true _ _ (true_from_ne_false _ (λ e. let f = list_all_at (λ s. leb s 65536) sines n 0 (omega (arith, table_length)) e in let t = table_within in cc))
+sines_within n le = leb-true _ _
+    (true_from_ne_false _ (λ e. let f = list_all_at (λ s. leb s 65536) sines n 0 (omega (arith, table_length)) e in let t = table_within in cc))
 
 sine_between : (low high part : ℕ) → low ≤ high → high ≤ 65536 → part < 65536 → low + (high - low) * part / 65536 ≤ 65536
 sine_between low high part rise most lt = let m = mul-le-mul_left (high - low) (let l : part ≤ 65536 = omega arith in l) in omega (arith, m)

@@ -1,5 +1,6 @@
 -- There is one chosen text.
-use Rattle.std.proofs.Common.{◌≡◌, ℕ, ◌+◌, ◌*◌, ◌/◌, ◌^◌, ◌<◌, ◌≤◌, List, [], ◌∷◌, ◌++◌, length, get_or, ℤ, unsigned_abs, refl, sym, ap, subst, ◌∙◌, arith}
+use Rattle.std.proofs.Common.{◌≡◌, ℕ, ◌+◌, ◌*◌, ◌/◌, ◌^◌, ◌<◌, ◌≤◌, List, [], ◌∷◌, ◌++◌, length, get_or, ℤ, unsigned_abs, refl, sym, ap, subst, ◌∙◌}
+use Rattle.std.proofs.Common.{arith}
 use Rattle.std.specs.Char.{digit_value}
 use Rattle.std.specs.Str.Parse.{digits_value, AllDigits}
 use Rattle.std.specs.Fmt.{decimal}
@@ -9,7 +10,8 @@ use Rattle.std.proofs.lemmas.Int.Digits.{digits_value-lt}
 use Rattle.std.proofs.lemmas.Nat.{div-mul-add}
 use Rattle.std.proofs.lemmas.Str.Parse.{IsNumeralModel}
 use Rattle.tk_num.specs.Number.{whole_digits, part_digits}
-use Rattle.tk_num.specs.Text.{IsChosen, ReadsBack, IsTextOf, IsPointedTextOf, places, number_without_point, distance_from, sign_text, pointed_text, text_of, without_zero}
+use Rattle.tk_num.specs.Text.{IsChosen, ReadsBack, IsTextOf, IsPointedTextOf, places, number_without_point, distance_from, sign_text, pointed_text}
+use Rattle.tk_num.specs.Text.{text_of, without_zero}
 use Rattle.tk_num.proofs.Chosen.{size_text, size_chosen, text_splits, text-is, pointed-is, whole_passes, part_passes, whole-size}
 use Rattle.tk_num.proofs.Fixed.{are_digits, value-append}
 
@@ -38,8 +40,10 @@ same_digits (x ∷ xs) (y ∷ ys) a b l v =
     let low2 : digits_value 10 ys < p = subst (λ n. digits_value 10 ys < 10 ^ n) (sym count) (digits_value-lt 10 ys b.1) in
     let all : digit_value x * p + digits_value 10 xs ≡ digit_value y * p + digits_value 10 ys =
     sym (first_digit x xs) ∙ v ∙ first_digit y ys ∙ ap (λ n. digit_value y * 10 ^ n + digits_value 10 ys) (sym count) in
-    let first : digit_value x ≡ digit_value y = quotient_same p (digits_value 10 xs) (digit_value x) (digits_value 10 ys) (digit_value y) low low2 all in
-    let rest : digits_value 10 xs ≡ digits_value 10 ys = rest_same (digit_value x * p) (digits_value 10 xs) (digits_value 10 ys) (all ∙ ap (λ d. d * p + digits_value 10 ys) (sym first)) in
+    let first : digit_value x ≡ digit_value y = quotient_same p (digits_value 10 xs) (digit_value x) (digits_value 10 ys) (digit_value y) low low2 all
+            in
+    let rest : digits_value 10 xs ≡ digits_value 10 ys = rest_same (digit_value x * p) (digits_value 10 xs) (digits_value 10 ys) (all
+            ∙ ap (λ d. d * p + digits_value 10 ys) (sym first)) in
     ap (λ c. c ∷ xs) (digit_same x y a.0 b.0 first) ∙ ap (λ cs. y ∷ cs) (same_digits xs ys a.1 b.1 count rest)
 
 digits_are_numerals : IsNumeralModel (AllDigits 10) (digits_value 10)
@@ -59,13 +63,16 @@ whole_same n text lt r =
     sym (decimal-digits_value digits_are_numerals ds all r.pointed.whole (lone_zero ds r.pointed.whole r.pointed.needed) (omega (arith, value)))
     ∙ ap decimal value
 
-part_same : (n : ℕ) (a b : List ℕ) → ReadsBack n a → ReadsBack n b → places a ≡ places b → number_without_point a ≡ number_without_point b → part_digits a ≡ part_digits b
+part_same : (n : ℕ) (a b : List ℕ) → ReadsBack n a → ReadsBack n b → places a ≡ places b → number_without_point a ≡ number_without_point b
+    → part_digits a ≡ part_digits b
 part_same n a b r s count number =
     let p : ℕ = n / 65536 * 10 ^ places a in
     let here = (text_splits n a r).number in
-    let there : number_without_point b ≡ p + digits_value 10 (part_digits b) = (text_splits n b s).number ∙ ap (λ j. n / 65536 * 10 ^ j + digits_value 10 (part_digits b)) (sym count) in
+    let there : number_without_point b ≡ p + digits_value 10 (part_digits b) = (text_splits n b s).number
+            ∙ ap (λ j. n / 65536 * 10 ^ j + digits_value 10 (part_digits b)) (sym count) in
     let value : digits_value 10 (part_digits a) ≡ digits_value 10 (part_digits b) = rest_same p _ _ (sym here ∙ number ∙ there) in
-    same_digits (part_digits a) (part_digits b) (are_digits _ (part_passes a r.pointed.digits)) (are_digits _ (part_passes b s.pointed.digits)) count value
+    same_digits (part_digits a) (part_digits b) (are_digits _ (part_passes a r.pointed.digits)) (are_digits _ (part_passes b s.pointed.digits)) count
+        value
 
 only_chosen : (n : ℕ) (text : List ℕ) → n < 2 ^ 64 → IsChosen n text → text ≡ size_text n
 only_chosen n text lt h =

@@ -1,5 +1,6 @@
 -- Sums and products of 64 bits that do not wrap.
-use Rattle.std.proofs.Common.{◌≡◌, ◌≢◌, ℕ, ℤ, pos, negsuc, ◌+ℤ◌, ◌*ℤ◌, int_div, unsigned_abs, ◌+◌, ◌^◌, ◌<◌, ◌≤◌, false, eqb, refl, sym, ap, ◌∙◌, arith, SFits, to_z, of_z}
+use Rattle.std.proofs.Common.{◌≡◌, ◌≢◌, ℕ, ℤ, pos, negsuc, ◌+ℤ◌, ◌*ℤ◌, int_div, unsigned_abs, ◌+◌, ◌^◌, ◌<◌, ◌≤◌, false, eqb, refl, sym, ap, ◌∙◌}
+use Rattle.std.proofs.Common.{arith, SFits, to_z, of_z}
 use Rattle.std.specs.Int.{w64}
 use Rattle.std.proofs.Math.Nat.{mul-le-mul_left, mul-le-mul_right}
 use Rattle.std.proofs.lemmas.Bool.Decides.{nat_tests}
@@ -16,7 +17,8 @@ product_small a b la lb =
     let r = mul-le-mul_right 1073741823 la in
     omega (arith, unsigned_abs-mul a b, l, r)
 
-pub wrapped_mul : (a b : ℤ) → unsigned_abs a ≤ 1073741823 → unsigned_abs b ≤ 1073741823 → to_z w64 (of_z w64 (to_z w64 (of_z w64 a) *ℤ to_z w64 (of_z w64 b))) ≡ a *ℤ b
+pub wrapped_mul : (a b : ℤ) → unsigned_abs a ≤ 1073741823 → unsigned_abs b ≤ 1073741823
+    → to_z w64 (of_z w64 (to_z w64 (of_z w64 a) *ℤ to_z w64 (of_z w64 b))) ≡ a *ℤ b
 wrapped_mul a b la lb =
     ap (λ z. to_z w64 (of_z w64 (z *ℤ to_z w64 (of_z w64 b)))) (to_z-of_z w64 a (fits_signed_64 a (omega arith)))
     ∙ ap (λ z. to_z w64 (of_z w64 (a *ℤ z))) (to_z-of_z w64 b (fits_signed_64 b (omega arith)))
@@ -29,7 +31,8 @@ pub sum_fits : (a b : ℤ) → unsigned_abs a ≤ 1152921502459363329 → unsign
 sum_fits a b la lb = let s = sum_small a b in fits_signed_64 (a +ℤ b) (omega arith)
 
 -- a sum whose parts are known
-pub wrapped_add : (x y a b : ℤ) → x ≡ a → y ≡ b → unsigned_abs a ≤ 1152921502459363329 → unsigned_abs b ≤ 1152921502459363329 → to_z w64 (of_z w64 (x +ℤ y)) ≡ a +ℤ b
+pub wrapped_add : (x y a b : ℤ) → x ≡ a → y ≡ b → unsigned_abs a ≤ 1152921502459363329 → unsigned_abs b ≤ 1152921502459363329
+    → to_z w64 (of_z w64 (x +ℤ y)) ≡ a +ℤ b
 wrapped_add x y a b e h la lb =
     ap (λ z. to_z w64 (of_z w64 (z +ℤ y))) e
     ∙ ap (λ z. to_z w64 (of_z w64 (a +ℤ z))) h

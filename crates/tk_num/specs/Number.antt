@@ -1,5 +1,7 @@
 -- Numbers in 65536ths of a point, by exact fractions (Knuth, TeX: The Program, sections 99 to 107).
-use Rattle.std.specs.Prelude.{ℕ, zero, suc, ◌+◌, ◌*◌, ◌/◌, ◌%◌, ◌^◌, ◌<◌, ◌≤◌, Bool, ◌&&◌, ◌==◌, nat_lt, nat_le, if◌then◌else◌, List, length, take, Option, Some, None, Result, Ok, Err, ℤ, pos, negsuc, ◌*ℤ◌, ◌≤ℤ◌, int_div, unsigned_abs}
+use Rattle.std.specs.Prelude.{ℕ, zero, suc, ◌+◌, ◌*◌, ◌/◌, ◌%◌, ◌^◌, ◌<◌, ◌≤◌, Bool, ◌&&◌, ◌==◌, nat_lt, nat_le}
+use Rattle.std.specs.Prelude.{if◌then◌else◌, List, length, take, Option, Some, None, Result, Ok, Err, ℤ, pos, negsuc}
+use Rattle.std.specs.Prelude.{◌*ℤ◌, ◌≤ℤ◌, int_div, unsigned_abs}
 use Rattle.std.specs.List.{list_all, before_first, after_first}
 use Rattle.std.specs.Char.{is_ascii_digit}
 use Rattle.std.specs.Str.Parse.{digits_value}
@@ -47,7 +49,8 @@ square_root (negsuc n) = Err Domain
 
 -- ---- decimals
 
--- the 65536ths nearest to the fraction whose n digits after the point are those of m, ties upward (Knuth, TeX: The Program, section 102)
+-- the 65536ths nearest to the fraction whose n digits after the point are those of m, ties upward (Knuth, TeX: The
+-- Program, section 102)
 abbrev pub nearest_65536th : ℕ → ℕ → ℕ
 nearest_65536th n m = (131072 * m + 10 ^ n) / (2 * 10 ^ n)
 

@@ -1,12 +1,14 @@
 -- The text of a number.
-use Rattle.std.specs.Prelude.{◌≡◌, ℕ, zero, suc, ◌+◌, ◌-◌, ◌*◌, ◌/◌, ◌%◌, ◌^◌, ◌<◌, ◌≤◌, Bool, true, false, ◌==◌, if◌then◌else◌, List, [], ◌∷◌, ◌++◌, length, ℤ, pos, negsuc, unsigned_abs, codes, decimal}
+use Rattle.std.specs.Prelude.{◌≡◌, ℕ, zero, suc, ◌+◌, ◌-◌, ◌*◌, ◌/◌, ◌%◌, ◌^◌, ◌<◌, ◌≤◌, Bool, true, false, ◌==◌}
+use Rattle.std.specs.Prelude.{if◌then◌else◌, List, [], ◌∷◌, ◌++◌, length, ℤ, pos, negsuc, unsigned_abs, codes, decimal}
 use Rattle.std.specs.Str.Parse.{digits_value}
 use Rattle.tk_characters.specs.Characters.{point}
 use Rattle.tk_num.specs.Number.{nearest_65536th, whole_digits, part_digits, is_decimal, decimal_value}
 
 -- ---- the choice among all texts
 
--- one or more digits with no needless zero in front, a point, and one to five digits: `28.45274` and `0.0`, but not `.5` or `00.5`
+-- one or more digits with no needless zero in front, a point, and one to five digits: `28.45274` and `0.0`, but not
+-- `.5` or `00.5`
 pub record IsPointed (text : List ℕ) : Type 0 where
   pub digits : is_decimal text ≡ true
   pub point : text ≡ whole_digits text ++ point ∷ part_digits text

@@ -4,7 +4,8 @@ use Rattle.tk_num.specs.Number.{product}
 use Rattle.tk_num.specs.declared.unit.Unit.{Unit}
 use Rattle.tk_num.specs.declared.unit.Unit.TheVariants.{Pt, Pc, In, Bp, Cm, Mm, Dd, Cc, Sp, Em, Ex}
 
--- v 65536ths of a unit of numerator / denominator points, in 65536ths of a point, cut downward: 1in is 7227/100pt, so that 65536 are 4736286
+-- v 65536ths of a unit of numerator / denominator points, in 65536ths of a point, cut downward: 1in is 7227/100pt, so
+-- that 65536 are 4736286
 abbrev pub converted : ℕ → ℕ → ℕ → ℕ
 converted numerator denominator v = v * numerator / denominator
 

@@ -5,7 +5,8 @@ ghost use Rattle.std.specs.List.{list_all, position};
 ghost use Rattle.std.specs.Char.{is_ascii_digit};
 ghost use Rattle.std.specs.Str.Parse.{digits_value};
 ghost use Rattle.std.specs.Option.{SomeIff};
-ghost use Rattle.tk_num.specs.Number.{is_point, nearest_65536th, fraction_of, whole_digits, part_digits, decimal_parts, IsWhole, IsFraction};
+ghost use Rattle.tk_num.specs.Number.{is_point, nearest_65536th, fraction_of, whole_digits, part_digits, decimal_parts};
+ghost use Rattle.tk_num.specs.Number.{IsWhole, IsFraction};
 
 /// The greatest whole part.
 const MOST_WHOLE: u64 = 1_073_741_823;
@@ -32,7 +33,8 @@ static POWERS: [u64; 13] = [
 
 /// The number that digits write, where it is at most the greatest whole part.
 fn whole_number(digits: &[u8]) -> Option<u64>
-    ensures { SomeIff result ((list_all is_ascii_digit digits.now ≡ true) × (digits_value 10 digits.now ≤ 1073741823)) (digits_value 10 digits.now) }
+    ensures { SomeIff result ((list_all is_ascii_digit digits.now ≡ true) × (digits_value 10 digits.now ≤ 1073741823))
+        (digits_value 10 digits.now) }
 {
     let mut value: u64 = 0;
     for digit in digits {

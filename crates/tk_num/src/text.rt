@@ -1,9 +1,11 @@
 //! The text of a number.
 
-ghost use Rattle.std.specs.Prelude.{◌≡◌, ℤ, pos, List, ℕ, ◌+◌, ◌-◌, ◌/◌, ◌%◌, ◌^◌, unsigned_abs, decimal, ◌<◌, ◌≤◌, ◌++◌, ◌∷◌, if◌then◌else◌, nat_lt, length, IsUtf8};
+ghost use Rattle.std.specs.Prelude.{◌≡◌, ℤ, pos, List, ℕ, ◌+◌, ◌-◌, ◌/◌, ◌%◌, ◌^◌, unsigned_abs, decimal, ◌<◌, ◌≤◌};
+ghost use Rattle.std.specs.Prelude.{◌++◌, ◌∷◌, if◌then◌else◌, nat_lt, length, IsUtf8};
 ghost use Rattle.arrayvec.specs.ArrayVec.{array_vec_len};
 ghost use Rattle.tk_num.specs.Number.{decimal_parts};
-ghost use Rattle.tk_num.specs.Text.{unsigned_text, places, IsTextOf, IsPointedTextOf, text_of, sign_text, pointed_text, part_text};
+ghost use Rattle.tk_num.specs.Text.{unsigned_text, places, IsTextOf, IsPointedTextOf, text_of, sign_text, pointed_text};
+ghost use Rattle.tk_num.specs.Text.{part_text};
 
 use arrayvec::{ArrayString, ArrayVec};
 
@@ -142,13 +144,17 @@ pub fn print_tex(sp: i64) -> ArrayString<24>
 /// There is one text of a number, and one that TeX prints.
 pub fn text_is_unique()
     ensures text { (sp : ℤ) → (text : List ℕ) → unsigned_abs sp < 2 ^ 64 → IsTextOf sp text → text ≡ text_of sp }
-    ensures pointed { (sp : ℤ) → (text : List ℕ) → unsigned_abs sp < 2 ^ 64 → IsPointedTextOf sp text → text ≡ pointed_text sp }
+    ensures pointed { (sp : ℤ) → (text : List ℕ) → unsigned_abs sp < 2 ^ 64 → IsPointedTextOf sp text
+        → text ≡ pointed_text sp }
 {}
 
 /// The text of a number without its sign reads back as its size, and no text with fewer digits after the
 /// point does.
 #[tactic(auto, using(crate::proofs::Back::text_back, crate::proofs::Back::no_shorter))]
 pub fn text_reads_back()
-    ensures back { (sp : ℤ) → unsigned_abs sp ≤ 4294967295 → decimal_parts (unsigned_text sp) ≡ Some (pos (unsigned_abs sp / 65536), pos (unsigned_abs sp % 65536)) }
-    ensures shortest { (sp : ℤ) → unsigned_abs sp ≤ 4294967295 → (text : List ℕ) → decimal_parts text ≡ Some (pos (unsigned_abs sp / 65536), pos (unsigned_abs sp % 65536)) → places (unsigned_text sp) ≤ places text }
+    ensures back { (sp : ℤ) → unsigned_abs sp ≤ 4294967295 → decimal_parts (unsigned_text sp)
+        ≡ Some (pos (unsigned_abs sp / 65536), pos (unsigned_abs sp % 65536)) }
+    ensures shortest { (sp : ℤ) → unsigned_abs sp ≤ 4294967295 → (text : List ℕ)
+        → decimal_parts text ≡ Some (pos (unsigned_abs sp / 65536), pos (unsigned_abs sp % 65536))
+        → places (unsigned_text sp) ≤ places text }
 {}

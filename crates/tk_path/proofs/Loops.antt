@@ -16,10 +16,12 @@ use Rattle.tk_path.specs.Paths.{stretch, PathFlow, part_from, operations}
 use Rattle.tk_path.proofs.Moving.{Looks}
 use Rattle.tk_path.proofs.Unbounded.{looks_any, Leaves, part_leaves, operations_are}
 
-module _ (given now : Given) (same : now ≡ given) (opener : PathOpener) (start c : Configuration) (told : operations given (stretch opener start) ≡ operations given (stretch opener c)) where
+module _ (given now : Given) (same : now ≡ given) (opener : PathOpener) (start c : Configuration) (told : operations given (stretch opener start)
+    ≡ operations given (stretch opener c)) where
   -- operations whose front fails
   pub front_fails : (e : Refusal) → Fails e (ahead_of now c) → Fails e (operations given (stretch opener start))
-  front_fails e h = fails_as e _ _ (told ∙ operations_are given (stretch opener c)) (fails_then e (ahead_of given c) _ (subst (λ (g : Given). Fails e (ahead_of g c)) same h))
+  front_fails e h = fails_as e _ _ (told ∙ operations_are given (stretch opener c)) (fails_then e (ahead_of given c) _
+      (subst (λ (g : Given). Fails e (ahead_of g c)) same h))
 
   module _ (first : Lookahead) (known : ahead_of now c ≡ Ok first) where
     known_first : ahead_of given c ≡ Ok first
@@ -28,7 +30,8 @@ module _ (given now : Given) (same : now ≡ given) (opener : PathOpener) (start
     takes : Looks Any given c first
     takes = known_of (Looks Any given c) (ahead_of given c) first known_first (looks_any given c)
 
-    operations_go : operations given (stretch opener start) ≡ (part_from given (operations given) opener first >>= go_on (λ next. operations given (stretch opener next)))
+    operations_go : operations given (stretch opener start) ≡ (part_from given (operations given) opener first
+        >>= go_on (λ next. operations given (stretch opener next)))
     operations_go = told ∙ operations_are given (stretch opener c) ∙ then_is (ahead_of given c) _ first known_first
 
     -- a token that was taken is work that is gone
@@ -40,17 +43,23 @@ module _ (given now : Given) (same : now ≡ given) (opener : PathOpener) (start
       at_given r e = subst (λ (g : Given). part_from g (operations g) opener first ≡ r) so e
 
       -- one part, and what follows it
-      pub operations_more : (d : Configuration) → part_from later (operations later) opener first ≡ Ok (Goes_on d) → operations given (stretch opener start) ≡ operations given (stretch opener d)
-      operations_more d e = operations_go ∙ then_is (part_from given (operations given) opener first) (go_on (λ next. operations given (stretch opener next))) (Goes_on d) (at_given (Ok (Goes_on d)) e)
+      pub operations_more : (d : Configuration) → part_from later (operations later) opener first ≡ Ok (Goes_on d)
+          → operations given (stretch opener start) ≡ operations given (stretch opener d)
+      operations_more d e = operations_go ∙ then_is (part_from given (operations given) opener first)
+          (go_on (λ next. operations given (stretch opener next))) (Goes_on d) (at_given (Ok (Goes_on d)) e)
 
       -- the end
-      pub operations_finish : (d : Configuration) → part_from later (operations later) opener first ≡ Ok (Finishes d) → operations given (stretch opener start) ≡ Ok d
-      operations_finish d e = operations_go ∙ then_is (part_from given (operations given) opener first) (go_on (λ next. operations given (stretch opener next))) (Finishes d) (at_given (Ok (Finishes d)) e)
+      pub operations_finish : (d : Configuration) → part_from later (operations later) opener first ≡ Ok (Finishes d)
+          → operations given (stretch opener start) ≡ Ok d
+      operations_finish d e = operations_go ∙ then_is (part_from given (operations given) opener first)
+          (go_on (λ next. operations given (stretch opener next))) (Finishes d) (at_given (Ok (Finishes d)) e)
 
       -- a part that fails
       pub part_fails : (e : Refusal) → Fails e (part_from later (operations later) opener first) → Fails e (operations given (stretch opener start))
-      part_fails e h = fails_as e _ _ operations_go (fails_then e (part_from given (operations given) opener first) _ (subst (λ (g : Given). Fails e (part_from g (operations g) opener first)) so h))
+      part_fails e h = fails_as e _ _ operations_go (fails_then e (part_from given (operations given) opener first) _
+          (subst (λ (g : Given). Fails e (part_from g (operations g) opener first)) so h))
 
       -- a part leaves less than stood before it
       pub part_less : (d : Configuration) → part_from later (operations later) opener first ≡ Ok (Goes_on d) → work_at given d < work_at given c
-      part_less d e = (known_of (Leaves given c) (part_from given (operations given) opener first) (Goes_on d) (at_given (Ok (Goes_on d)) e) (part_leaves given opener c first takes)).less.less
+      part_less d e = (known_of (Leaves given c) (part_from given (operations given) opener first) (Goes_on d) (at_given (Ok (Goes_on d)) e)
+          (part_leaves given opener c first takes)).less.less

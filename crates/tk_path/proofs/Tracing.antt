@@ -55,17 +55,22 @@ line_begins m line =
     then_result BeginsOrNone (checked_image m line.to) _ (λ q. tt))
 
 -- what was put behind a path
-pub appended_pieces_trace : (old new : List Seg) (done : Result (Unit {0}) AffFault) (pieces : Result (List Seg) AffFault) → is_ok done ≡ true → Appends old new done pieces → with_pieces_behind old pieces ≡ Ok new
+pub appended_pieces_trace : (old new : List Seg) (done : Result (Unit {0}) AffFault) (pieces : Result (List Seg) AffFault) → is_ok done ≡ true
+    → Appends old new done pieces → with_pieces_behind old pieces ≡ Ok new
 appended_pieces_trace old new (Ok u) pieces e h = h
 appended_pieces_trace old new (Err f) pieces e h = absurd (true≢false (sym e))
 
 -- a path to which such pieces were added
-added_pieces_trace : (old new : List Seg) (pieces : Result (List Seg) AffFault) → BeginsOrNone old → IfOk pieces BeginsOrNone → with_pieces_behind old pieces ≡ Ok new → IsTraced new None
-added_pieces_trace old new (Ok segs) h k e = record { first = subst BeginsOrNone (ap (λ r. result_unwrap_or r []) e) (joined_pieces_begin old segs h k); begun = tt }
+added_pieces_trace : (old new : List Seg) (pieces : Result (List Seg) AffFault) → BeginsOrNone old → IfOk pieces BeginsOrNone
+    → with_pieces_behind old pieces ≡ Ok new → IsTraced new None
+added_pieces_trace old new (Ok segs) h k e = record { first = subst BeginsOrNone (ap (λ r. result_unwrap_or r []) e) (joined_pieces_begin old segs h
+    k); begun = tt }
 added_pieces_trace old new (Err f) h k e = absurd (true≢false (sym (ap is_ok e)))
 
-pub circle_added : (old new : List Seg) (m : Matrix) (c : Point) (rx ry : ℤ) → BeginsOrNone old → with_pieces_behind old (circle_pieces m c rx ry) ≡ Ok new → IsTraced new None
+pub circle_added : (old new : List Seg) (m : Matrix) (c : Point) (rx ry : ℤ) → BeginsOrNone old
+    → with_pieces_behind old (circle_pieces m c rx ry) ≡ Ok new → IsTraced new None
 circle_added old new m c rx ry h e = added_pieces_trace old new (circle_pieces m c rx ry) h (circle_begins m c rx ry) e
 
-pub rectangle_added : (old new : List Seg) (m : Matrix) (p q : Point) → BeginsOrNone old → with_pieces_behind old (rectangle_pieces m p q) ≡ Ok new → IsTraced new None
+pub rectangle_added : (old new : List Seg) (m : Matrix) (p q : Point) → BeginsOrNone old → with_pieces_behind old (rectangle_pieces m p q) ≡ Ok new
+    → IsTraced new None
 rectangle_added old new m p q h e = added_pieces_trace old new (rectangle_pieces m p q) h (rectangle_begins m p q) e

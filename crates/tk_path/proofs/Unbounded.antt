@@ -19,7 +19,8 @@ use Rattle.tk_path.specs.declared.path.PathOpener.TheVariants as openers
 use Rattle.tk_path.specs.Configurations.{Configuration, Lookahead, lookahead, place_ahead, work_at, ahead_of}
 use Rattle.tk_path.specs.Flow.{Goes_on, Finishes, go_on}
 use Rattle.tk_path.specs.Keys.{with_env}
-use Rattle.tk_path.specs.Paths.{Stretch, stretch, ends, PathFlow, goes_on, plain_part, path_group, part_from, operations_step, stretch_work, operations}
+use Rattle.tk_path.specs.Paths.{Stretch, stretch, ends, PathFlow, goes_on, plain_part, path_group, part_from, operations_step, stretch_work}
+use Rattle.tk_path.specs.Paths.{operations}
 use Rattle.tk_path.proofs.Moving.{At, Comes, Looks, ahead_at}
 use Rattle.tk_path.proofs.PathMoves as moves
 
@@ -35,34 +36,42 @@ module _ (given : Given) where
   abbrev pub Leaves : Configuration → PathFlow → Type 0
   Leaves c part = moves.PartAt Any given tt (any_evaluates given) c part
 
-  pub part_leaves : (opener : PathOpener) (c : Configuration) (first : Lookahead) → Looks Any given c first → IfOk (part_from given (operations given) opener first) (Leaves c)
+  pub part_leaves : (opener : PathOpener) (c : Configuration) (first : Lookahead) → Looks Any given c first
+      → IfOk (part_from given (operations given) opener first) (Leaves c)
   part_leaves opener c first h =
       ok_at Any (Leaves c) (part_from given (operations given) opener first)
       (moves.part_at Any given tt (any_evaluates given) (operations given) (moves.operations_at Any given tt (any_evaluates given)) opener c first h)
 
-  module _ (f : Stretch → Answer Configuration) (s : Stretch) (alike : (r : Stretch) → stretch_work given r < stretch_work given s → f r ≡ operations given r) where
-    group_alike : (at : ℕ) (c : Configuration) → work_at given c < stretch_work given s → path_group given f at c ≡ path_group given (operations given) at c
+  module _ (f : Stretch → Answer Configuration) (s : Stretch) (alike : (r : Stretch) → stretch_work given r < stretch_work given s
+      → f r ≡ operations given r) where
+    group_alike : (at : ℕ) (c : Configuration) → work_at given c < stretch_work given s
+        → path_group given f at c ≡ path_group given (operations given) at c
     unfolding path_group
     group_alike at c less =
         then_alike (λ (e : Env). Unit {0}) (level at c.env) _ _ (any_value (level at c.env)) (λ inside _.
         ap (λ (r : Answer Configuration). r >>= λ end. Ok (with_env c.env end)) (alike (stretch openers.Group (with_env inside c)) less))
 
-    part_alike : (token : Option Tok) (d : Configuration) → work_at given d + length (option_to_list token) ≤ stretch_work given s → part_from given f s.opener (lookahead token d) ≡ part_from given (operations given) s.opener (lookahead token d)
+    part_alike : (token : Option Tok) (d : Configuration) → work_at given d + length (option_to_list token) ≤ stretch_work given s
+        → part_from given f s.opener (lookahead token d) ≡ part_from given (operations given) s.opener (lookahead token d)
     unfolding part_from
     part_alike None d le = refl
     part_alike (Some t) d le =
-        ap (λ (r : Answer PathFlow). if ends s.opener t.kind then Ok (Finishes d) else (if is_open t.kind then r else goes_on (plain_part given (lookahead (Some t) d))))
+        ap (λ (r : Answer PathFlow). if ends s.opener t.kind then Ok (Finishes d) else (if is_open t.kind then r
+            else goes_on (plain_part given (lookahead (Some t) d))))
         (ap goes_on (group_alike t.at d (omega arith)))
 
-    follow_alike : (c : Configuration) → work_at given c ≤ stretch_work given s → (part : PathFlow) → Leaves c part → go_on (λ next. f (stretch s.opener next)) part ≡ go_on (λ next. operations given (stretch s.opener next)) part
+    follow_alike : (c : Configuration) → work_at given c ≤ stretch_work given s → (part : PathFlow) → Leaves c part
+        → go_on (λ next. f (stretch s.opener next)) part ≡ go_on (λ next. operations given (stretch s.opener next)) part
     follow_alike c le (Goes_on d) h = alike (stretch s.opener d) (let a = h.less.less in omega arith)
     follow_alike c le (Finishes p) h = refl
 
     step_alike : operations_step given f s ≡ operations_step given (operations given) s
     step_alike =
         then_alike (Looks Any given s.start) (ahead_of given s.start) _ _ (looks_any s.start) (λ first h.
-        ap (λ (r : Answer PathFlow). r >>= go_on (λ next. f (stretch s.opener next))) (part_alike first.token first.behind (let a = h.takes.work_falls in omega arith))
-        ∙ then_alike (Leaves s.start) (part_from given (operations given) s.opener first) _ _ (part_leaves s.opener s.start first h) (λ part k. follow_alike s.start (omega arith) part k))
+        ap (λ (r : Answer PathFlow). r >>= go_on (λ next. f (stretch s.opener next)))
+            (part_alike first.token first.behind (let a = h.takes.work_falls in omega arith))
+        ∙ then_alike (Leaves s.start) (part_from given (operations given) s.opener first) _ _ (part_leaves s.opener s.start first h)
+            (λ part k. follow_alike s.start (omega arith) part k))
 
   operations_pinned : IsPinned (stretch_work given) (fault Budget 0) (operations_step given)
   unfolding operations
@@ -72,6 +81,7 @@ module _ (given : Given) where
   unfolding operations
   operations_are s = is_its_step (stretch_work given) (fault Budget 0) (operations_step given) operations_pinned s
 
-  pub operations_stuck : (stuck : Answer Configuration) (s : Stretch) → operations given s ≡ by_size (stretch_work given) stuck (operations_step given) s
+  pub operations_stuck : (stuck : Answer Configuration) (s : Stretch)
+      → operations given s ≡ by_size (stretch_work given) stuck (operations_step given) s
   unfolding operations
   operations_stuck stuck s = is_never_stuck (stretch_work given) (fault Budget 0) (operations_step given) operations_pinned stuck s

@@ -14,7 +14,8 @@ use Rattle.tk_keys.specs.Given.{Given}
 use Rattle.tk_coord.specs.Coordinates.{point_of}
 use Rattle.tk_path.specs.declared.coordinate.Sign.{Sign}
 use Rattle.tk_path.specs.declared.coordinate.Sign.TheVariants as signs
-use Rattle.tk_path.specs.Configurations.{Configuration, with_stream, Reached, reached, Lookahead, place_ahead, must_be, token_ahead, ahead_of}
+use Rattle.tk_path.specs.Configurations.{Configuration, with_stream, Reached, reached, Lookahead, place_ahead, must_be}
+use Rattle.tk_path.specs.Configurations.{token_ahead, ahead_of}
 use Rattle.tk_path.specs.Keys.{with_list}
 
 -- ---- as it is written

@@ -1,5 +1,6 @@
 -- The path that is being read.
-use Rattle.std.specs.Prelude.{ℤ, Bool, true, if◌then◌else◌, List, [], ◌∷◌, ◌++◌, Option, None, Some, unwrap_or, Result, Ok, slice_get, length, ◌-◌}
+use Rattle.std.specs.Prelude.{ℤ, Bool, true, if◌then◌else◌, List, [], ◌∷◌, ◌++◌, Option, None, Some, unwrap_or, Result}
+use Rattle.std.specs.Prelude.{Ok, slice_get, length, ◌-◌}
 use Rattle.std.specs.Ordering.{int_eq}
 use Rattle.tk_item.specs.declared.Point.{Point}
 use Rattle.tk_item.specs.declared.Seg.{Seg}
@@ -13,8 +14,8 @@ use Rattle.tk_geom.specs.Rectangles.{rectangle_pieces}
 use Rattle.tk_path.specs.declared.measures.Sweep.{Sweep}
 use Rattle.tk_path.specs.declared.trace.Goal.{Goal}
 
--- its pieces so far, the current point and the point that relative coordinates start from, once there are such, and where
--- the subpath began that goes on, if one does
+-- its pieces so far, the current point and the point that relative coordinates start from, once there are such, and
+-- where the subpath began that goes on, if one does
 pub record CurrentPath : Type 0 where
   pub segs : List Seg
   pub current : Option Point

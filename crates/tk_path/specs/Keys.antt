@@ -13,7 +13,8 @@ use Rattle.tk_keys.specs.Environment.{Env, tikz_path}
 use Rattle.tk_keys.specs.Given.{Given}
 use Rattle.tk_keys.specs.Keys.{run_at}
 use Rattle.tk_keys.specs.Settings.{A_key_list, runs}
-use Rattle.tk_path.specs.Configurations.{Configuration, configuration, situation_at, Reached, reached, Lookahead, place_ahead, ahead_of}
+use Rattle.tk_path.specs.Configurations.{Configuration, configuration, situation_at, Reached, reached, Lookahead}
+use Rattle.tk_path.specs.Configurations.{place_ahead, ahead_of}
 use Rattle.tk_path.specs.Pictures.{with_units}
 
 -- the run goes on with another list

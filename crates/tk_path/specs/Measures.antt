@@ -46,8 +46,8 @@ module _ (given : Given) where
     end ← with_keys given at list.value (with_env inside list.behind)
     Ok (reached (measures_of end.env.graphics) (with_env c.env end))
 
-  -- the measures of an operation that may have options of its own, where the first token behind its word was taken: those at
-  -- the end of its options, or else those of the path
+  -- the measures of an operation that may have options of its own, where the first token behind its word was taken:
+  -- those at the end of its options, or else those of the path
   unfoldable pub measures_from : Lookahead → Answer (Reached Measures)
   measures_from first =
       if is_there (is_char left_bracket) first.token

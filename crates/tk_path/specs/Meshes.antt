@@ -16,7 +16,8 @@ pub record Meshed : Type 0 where
 abbrev pub meshed : CurrentPath → ℕ → Meshed
 meshed path units = record { path = path; units = units }
 
--- a grid with those steps from the current point to a goal, where the path stands then; each line is paid for at that place
+-- a grid with those steps from the current point to a goal, where the path stands then; each line is paid for at that
+-- place
 unfoldable pub mesh_drawn : Point → Mesh → Goal → ℕ → ℕ → ℕ → CurrentPath → Answer Meshed
 mesh_drawn origin mesh to budget at units path = do
   grid ← grid_pieces mesh.matrix (current_point origin path) to.point mesh.xstep mesh.ystep budget at units

@@ -26,25 +26,30 @@ use Rattle.tk_path.specs.declared.words.PathWord.TheVariants as words
 use Rattle.tk_path.specs.declared.words.Words.TheVariants.{Controls}
 use Rattle.tk_path.specs.declared.coordinate.Sign.{Sign}
 use Rattle.tk_path.specs.declared.coordinate.Sign.TheVariants as signs
-use Rattle.tk_path.specs.Configurations.{Configuration, with_stream, Reached, reached, Lookahead, place_ahead, must_be, ahead_of}
+use Rattle.tk_path.specs.Configurations.{Configuration, with_stream, Reached, reached, Lookahead, place_ahead, must_be}
+use Rattle.tk_path.specs.Configurations.{ahead_of}
 use Rattle.tk_path.specs.Coordinates.{Written, coordinate_from, coordinate_point}
-use Rattle.tk_path.specs.CurrentPaths.{CurrentPath, subpath_start, in_subpath, standing_at, with_close, moved_to, with_pieces, circled, boxed, arced}
+use Rattle.tk_path.specs.CurrentPaths.{CurrentPath, subpath_start, in_subpath, standing_at, with_close, moved_to}
+use Rattle.tk_path.specs.CurrentPaths.{with_pieces, circled, boxed, arced}
 use Rattle.tk_path.specs.Keys.{put_back, with_list}
-use Rattle.tk_path.specs.Measures.{measures_of, inner_measures, measures_from, length_across, length_upward, radii_in, arc_in, sweep_of}
+use Rattle.tk_path.specs.Measures.{measures_of, inner_measures, measures_from, length_across, length_upward, radii_in}
+use Rattle.tk_path.specs.Measures.{arc_in, sweep_of}
 use Rattle.tk_path.specs.Meshes.{mesh_drawn}
 use Rattle.tk_path.specs.Pictures.{with_units}
-use Rattle.tk_path.specs.Targets.{with_current, origin_of, here, reference, Target, A_coordinate, The_start, goal_of, goal_ahead, target_ahead}
+use Rattle.tk_path.specs.Targets.{with_current, origin_of, here, reference, Target, A_coordinate, The_start, goal_of}
+use Rattle.tk_path.specs.Targets.{goal_ahead, target_ahead}
 use Rattle.tk_path.specs.Words.{word_ahead, past_word}
 
 -- ---- ways
 
--- the second control point of a curve: it is known, or it starts from the end of the curve and is found once that is known
+-- the second control point of a curve: it is known, or it starts from the end of the curve and is found once that is
+-- known
 pub data Control : Type 0 where
   Known : Point → Control
   From_end : Written → Control
 
--- how an operation gets from one point to another: straight, round a corner whose sign stands at a place, or along a curve
--- by its control points
+-- how an operation gets from one point to another: straight, round a corner whose sign stands at a place, or along a
+-- curve by its control points
 pub data Way : Type 0 where
   Straight : Way
   Cornered : CornerSign → ℕ → Way
@@ -125,8 +130,8 @@ module _ (given : Given) where
     Ok (reached (Known point.value) point.behind)
   second_control w sign c = Ok (reached (From_end w) c)
 
-  -- the way of a curve whose first control point is known, and the word behind it: `p and q ..`, or `p ..`, where p stands
-  -- for both
+  -- the way of a curve whose first control point is known, and the word behind it: `p and q ..`, or `p ..`, where p
+  -- stands for both
   abbrev pub curve_behind : Point → PathWord → Configuration → Answer (Reached Way)
   curve_behind p words.And c = do
     written ← control_ahead c
@@ -171,8 +176,8 @@ module _ (given : Given) where
     text ← full given.budget c.env.macros (stream c.picture.units (unread written.front at))
     Ok (reached text.list.rest (with_stream c (stream text.units (unread written.rest c.list.end))))
 
-  -- what a circle is measured by, where the first token behind its word was taken: radii in parentheses, options, or the keys
-  -- of the path
+  -- what a circle is measured by, where the first token behind its word was taken: radii in parentheses, options, or
+  -- the keys of the path
   unfoldable pub circle_measures : Lookahead → Answer (Reached Measures)
   circle_measures first =
       if is_there (is_char left_parenthesis) first.token
@@ -189,8 +194,8 @@ module _ (given : Given) where
     measures ← circle_measures first
     circle_with at measures.value measures.behind
 
-  -- what an arc is measured by, where the first token behind its word was taken, which stands at that place: angles and radii
-  -- in parentheses, or options
+  -- what an arc is measured by, where the first token behind its word was taken, which stands at that place: angles and
+  -- radii in parentheses, or options
   unfoldable pub arc_measures : ℕ → Lookahead → Answer (Reached ArcMeasures)
   arc_measures at first =
       if is_there (is_char left_parenthesis) first.token

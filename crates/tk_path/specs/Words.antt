@@ -1,5 +1,6 @@
 -- The words and signs of paths. They are read letter by letter, with nothing between the letters.
-use Rattle.std.specs.Prelude.{ℕ, Bool, ◌||◌, ◌==◌, if◌then◌else◌, List, [], ◌∷◌, Option, Some, None, Ok, codes, slice_get}
+use Rattle.std.specs.Prelude.{ℕ, Bool, ◌||◌, ◌==◌, if◌then◌else◌, List, [], ◌∷◌, Option, Some, None, Ok, codes}
+use Rattle.std.specs.Prelude.{slice_get}
 use Rattle.tk_characters.specs.Characters.{left_parenthesis, plus}
 use Rattle.tk_token.specs.declared.Kind.{Kind}
 use Rattle.tk_token.specs.declared.Kind.TheVariants.{Char}
@@ -13,7 +14,8 @@ use Rattle.tk_path.specs.declared.words.PathWord.{PathWord}
 use Rattle.tk_path.specs.declared.words.PathWord.TheVariants as words
 use Rattle.tk_path.specs.declared.words.Words.{Words}
 use Rattle.tk_path.specs.declared.words.Words.TheVariants as tables
-use Rattle.tk_path.specs.Configurations.{Configuration, Reached, reached, Lookahead, place_ahead, must_be, token_ahead, ahead_of}
+use Rattle.tk_path.specs.Configurations.{Configuration, Reached, reached, Lookahead, place_ahead, must_be, token_ahead}
+use Rattle.tk_path.specs.Configurations.{ahead_of}
 
 -- ---- the tables
 
@@ -95,8 +97,8 @@ module _ (given : Given) (at : ℕ) where
     Ok (reached found.1 behind)
 
 module _ (given : Given) where
-  -- The word of a table that begins with a token which was taken. Where none does, or one fits only in part, that is a fault
-  -- at this token.
+  -- The word of a table that begins with a token which was taken. Where none does, or one fits only in part, that is a
+  -- fault at this token.
   unfoldable pub word_from : Words → Lookahead → Answer (Reached PathWord)
   word_from kind first = do
     letter ← or_fault (letter_there first.token) PathSyntax (place_ahead first)

@@ -66,7 +66,8 @@ impl Drawer {
         input: &mut Input,
         first: Option<Tok>,
     ) -> Result<Written, Refusal>
-        ensures gives { (path : ACurrentPath) → Gives (λ written. reached_at (written_of written) self.new path input.new) result
+        ensures gives { (path : ACurrentPath)
+            → Gives (λ written. reached_at (written_of written) self.new path input.new) result
             (spec.coordinate_from (given_to self.old) (lookahead_of first self.old path input.old)) }
         ensures pays { OnOk result (OnlyPays self.old self.new) }
     {
@@ -79,7 +80,8 @@ impl Drawer {
     /// Reads a coordinate whose first `+` was taken.
     #[tactic(auto, unfolding(crate::specs::Coordinates::behind_plus))]
     fn behind_plus(&mut self, input: &mut Input) -> Result<Written, Refusal>
-        ensures gives { (path : ACurrentPath) → Gives (λ written. reached_at (written_of written) self.new path input.new) result
+        ensures gives { (path : ACurrentPath)
+            → Gives (λ written. reached_at (written_of written) self.new path input.new) result
             (spec.behind_plus (given_to self.old) (configuration_of self.old path input.old)) }
         ensures pays { OnOk result (OnlyPays self.old self.new) }
     {
@@ -117,7 +119,8 @@ impl Drawer {
         sign: Sign,
         first: Option<Tok>,
     ) -> Result<Written, Refusal>
-        ensures gives { (path : ACurrentPath) → Gives (λ written. reached_at (written_of written) self.now path input.new) result
+        ensures gives { (path : ACurrentPath)
+            → Gives (λ written. reached_at (written_of written) self.now path input.new) result
             (spec.parenthesized sign (lookahead_of first self.now path input.old)) }
     {
         input.expect(Code::PathSyntax, first, '(')?;
@@ -128,7 +131,8 @@ impl Drawer {
     /// Reads a coordinate whose `(` was taken at that place.
     #[tactic(auto, unfolding(crate::specs::Coordinates::behind_parenthesis))]
     fn behind_parenthesis(&self, input: &mut Input, sign: Sign, at: u32) -> Result<Written, Refusal>
-        ensures gives { (path : ACurrentPath) → Gives (λ written. reached_at (written_of written) self.now path input.new) result
+        ensures gives { (path : ACurrentPath)
+            → Gives (λ written. reached_at (written_of written) self.now path input.new) result
             (spec.behind_parenthesis sign at (configuration_of self.now path input.old)) }
     {
         let text = written_text(input, at)?;
@@ -142,8 +146,10 @@ impl Drawer {
         written: Written,
         from: Point,
     ) -> Result<Point, Refusal>
-        ensures gives { (path : ACurrentPath) (rest : Unread) → Gives (λ point. reached_at point self.new path rest) result
-            (spec.coordinate_point (given_to self.old) from (written_of written) (configuration_of self.old path rest)) }
+        ensures gives { (path : ACurrentPath) (rest : Unread)
+            → Gives (λ point. reached_at point self.new path rest) result
+            (spec.coordinate_point (given_to self.old) from (written_of written)
+              (configuration_of self.old path rest)) }
         ensures pays { OnOk result (OnlyPays self.old self.new) }
     {
         let Written { sign, at, text } = written;

@@ -39,7 +39,8 @@ impl Drawer {
     /// Takes the next token that is no Space, with the Spaces before it.
     #[tactic(auto, unfolding(crate::specs::Configurations::ahead_of))]
     pub fn ahead(&mut self, input: &mut Input) -> Result<Option<Tok>, Refusal>
-        ensures gives { (ev : Evaluation) (path : ACurrentPath) → Gives (λ tok. lookahead_of tok self.new path input.new) result
+        ensures gives { (ev : Evaluation) (path : ACurrentPath)
+            → Gives (λ tok. lookahead_of tok self.new path input.new) result
             (ahead_of (given_of ev self.old.state) (configuration_of self.old path input.old)) }
         ensures pays { OnlyPays self.old self.new }
     {
@@ -56,10 +57,12 @@ impl Drawer {
         self.state.next(input)
     }
 
-    /// Puts the path that was read into the picture: it widens the frame, and is an item where the look fills or draws it.
+    /// Puts the path that was read into the picture: it widens the frame, and is an item where the look fills or draws
+    /// it.
     pub(crate) fn add(&mut self, path: CurrentPath) -> Result<(), AllocError>
         requires sound { IsSound self.old }
-        ensures picture { OnOk result (picture_of self.new no_path ≡ drawn self.old.state.graphics.look (picture_of self.old path)) }
+        ensures picture { OnOk result (picture_of self.new no_path
+            ≡ drawn self.old.state.graphics.look (picture_of self.old path)) }
         ensures sound { OnOk result (IsSound self.new) }
         ensures state { OnOk result (self.new.state ≡ self.old.state) }
     {

@@ -59,7 +59,8 @@ impl Drawer {
     /// Runs a key list, whose command stands at a place; it begins at /tikz.
     #[tactic(auto, unfolding(crate::specs::Keys::with_keys))]
     pub(crate) fn run_keys(&mut self, list: &[Tok], at: u32) -> Result<(), Refusal>
-        ensures gives { (ev : Evaluation) → IsEvaluation ev → (path : ACurrentPath) (rest : Unread) → Gives (λ _. configuration_of self.new path rest) result
+        ensures gives { (ev : Evaluation) → IsEvaluation ev → (path : ACurrentPath) (rest : Unread)
+            → Gives (λ _. configuration_of self.new path rest) result
             (keys.with_keys (given_of ev self.old.state) at list.now (configuration_of self.old path rest)) }
         ensures kept { OnOk result (KeepsDrawn self.old self.new) }
     {
@@ -71,8 +72,10 @@ impl Drawer {
     /// Runs the keys of a text, all of whose tokens stand at a place; they begin at /tikz.
     #[tactic(auto, unfolding(crate::specs::Keys::with_keys))]
     pub fn run_written(&mut self, text: &str, at: u32) -> Result<(), Refusal>
-        ensures gives { (ev : Evaluation) → IsEvaluation ev → (path : ACurrentPath) (rest : Unread) → Gives (λ _. configuration_of self.new path rest) result
-            (keys.with_keys (given_of ev self.old.state) at (texts.tokens_of at text.now) (configuration_of self.old path rest)) }
+        ensures gives { (ev : Evaluation) → IsEvaluation ev → (path : ACurrentPath) (rest : Unread)
+            → Gives (λ _. configuration_of self.new path rest) result
+            (keys.with_keys (given_of ev self.old.state) at (texts.tokens_of at text.now)
+              (configuration_of self.old path rest)) }
         ensures kept { OnOk result (KeepsDrawn self.old self.new) }
     {
         self.state.run_written(text, at)?;
@@ -92,7 +95,8 @@ impl Drawer {
     /// Runs a style by itself at a place, where it has a run.
     #[tactic(auto, unfolding(crate::specs::Keys::with_style))]
     pub fn run_style(&mut self, style: Style, at: u32) -> Result<(), Refusal>
-        ensures gives { (ev : Evaluation) → IsEvaluation ev → (path : ACurrentPath) (rest : Unread) → Gives (λ _. configuration_of self.new path rest) result
+        ensures gives { (ev : Evaluation) → IsEvaluation ev → (path : ACurrentPath) (rest : Unread)
+            → Gives (λ _. configuration_of self.new path rest) result
             (keys.with_style (given_of ev self.old.state) at (style_name style) (configuration_of self.old path rest)) }
         ensures kept { OnOk result (KeepsDrawn self.old self.new) }
     {
@@ -105,7 +109,8 @@ impl Drawer {
     /// Runs options, whose `[` was taken at a place.
     #[tactic(auto, unfolding(crate::specs::Keys::options, crate::specs::Keys::option_list))]
     pub(crate) fn options(&mut self, input: &mut Input, at: u32) -> Result<(), Refusal>
-        ensures gives { (ev : Evaluation) → IsEvaluation ev → (path : ACurrentPath) → Gives (λ _. configuration_of self.new path input.new) result
+        ensures gives { (ev : Evaluation) → IsEvaluation ev → (path : ACurrentPath)
+            → Gives (λ _. configuration_of self.new path input.new) result
             (keys.options (given_of ev self.old.state) at (configuration_of self.old path input.old)) }
         ensures kept { OnOk result (KeepsDrawn self.old self.new) }
     {
@@ -116,7 +121,8 @@ impl Drawer {
     /// Runs options that may stand next.
     #[tactic(auto, unfolding(crate::specs::Keys::options_ahead))]
     fn options_ahead(&mut self, input: &mut Input) -> Result<(), Refusal>
-        ensures gives { (ev : Evaluation) → IsEvaluation ev → (path : ACurrentPath) → Gives (λ _. configuration_of self.new path input.new) result
+        ensures gives { (ev : Evaluation) → IsEvaluation ev → (path : ACurrentPath)
+            → Gives (λ _. configuration_of self.new path input.new) result
             (keys.options_ahead (given_of ev self.old.state) (configuration_of self.old path input.old)) }
         ensures kept { OnOk result (KeepsDrawn self.old self.new) }
     {
@@ -127,7 +133,8 @@ impl Drawer {
     /// Runs options that begin with a token which was taken, or puts it back.
     #[tactic(auto, unfolding(crate::specs::Keys::options_from))]
     fn options_from(&mut self, input: &mut Input, first: Option<Tok>) -> Result<(), Refusal>
-        ensures gives { (ev : Evaluation) → IsEvaluation ev → (path : ACurrentPath) → Gives (λ _. configuration_of self.new path input.new) result
+        ensures gives { (ev : Evaluation) → IsEvaluation ev → (path : ACurrentPath)
+            → Gives (λ _. configuration_of self.new path input.new) result
             (keys.options_from (given_of ev self.old.state) (lookahead_of first self.old path input.old)) }
         ensures kept { OnOk result (KeepsDrawn self.old self.new) }
     {
@@ -157,8 +164,10 @@ impl Drawer {
         style: Style,
         at: u32,
     ) -> Result<(), Refusal>
-        ensures gives { (ev : Evaluation) → IsEvaluation ev → (path : ACurrentPath) → Gives (λ _. configuration_of self.new path input.new) result
-            (keys.with_style_and_options (given_of ev self.old.state) at (style_name style) (configuration_of self.old path input.old)) }
+        ensures gives { (ev : Evaluation) → IsEvaluation ev → (path : ACurrentPath)
+            → Gives (λ _. configuration_of self.new path input.new) result
+            (keys.with_style_and_options (given_of ev self.old.state) at (style_name style)
+              (configuration_of self.old path input.old)) }
         ensures kept { OnOk result (KeepsDrawn self.old self.new) }
     {
         self.run_style(style, at)?;

@@ -8,7 +8,8 @@ ghost use Rattle.tk_path.specs.CurrentPaths.{CurrentPath as ACurrentPath};
 ghost use Rattle.tk_path.specs.Operations as spec;
 ghost use Rattle.tk_path.specs.Targets.{A_coordinate, The_start};
 ghost use Rattle.tk_path.specs.Words.{past_word};
-ghost use Rattle.tk_path.specs.Views.{given_to, configuration_of, lookahead_of, reached_at, written_of, target_of, control_of, way_of, OnlyPays, KeepsDrawn};
+ghost use Rattle.tk_path.specs.Views.{given_to, configuration_of, lookahead_of, reached_at, written_of, target_of};
+ghost use Rattle.tk_path.specs.Views.{control_of, way_of, OnlyPays, KeepsDrawn};
 
 use crate::coordinate::{Sign, Written};
 use crate::drawer::Drawer;
@@ -99,7 +100,8 @@ impl Drawer {
     #[tactic(auto, unfolding(crate::specs::Operations::way_to))]
     fn go_to(&mut self, path: &mut CurrentPath, way: Way, written: Written) -> Result<(), Refusal>
         ensures gives { (rest : Unread) → Gives (λ _. configuration_of self.new path.new rest) result
-            (spec.way_to (given_to self.old) (way_of way) (A_coordinate (written_of written)) (configuration_of self.old path.old rest)) }
+            (spec.way_to (given_to self.old) (way_of way) (A_coordinate (written_of written))
+              (configuration_of self.old path.old rest)) }
         ensures kept { OnOk result (KeepsDrawn self.old self.new) }
     {
         let origin = self.origin();
@@ -161,7 +163,8 @@ impl Drawer {
     /// Where the second control point is, of a curve that ends at that point.
     #[tactic(auto, unfolding(crate::specs::Operations::control_point))]
     fn control_point(&mut self, end: Point, control: Control) -> Result<Point, Refusal>
-        ensures gives { (path : ACurrentPath) (rest : Unread) → Gives (λ point. reached_at point self.new path rest) result
+        ensures gives { (path : ACurrentPath) (rest : Unread)
+            → Gives (λ point. reached_at point self.new path rest) result
             (spec.control_point (given_to self.old) end (control_of control) (configuration_of self.old path rest)) }
         ensures pays { OnOk result (OnlyPays self.old self.new) }
     {
@@ -174,7 +177,8 @@ impl Drawer {
     /// Reads a control point that is next.
     #[tactic(auto, unfolding(crate::specs::Operations::control_ahead))]
     fn control_ahead(&mut self, input: &mut Input) -> Result<Written, Refusal>
-        ensures gives { (path : ACurrentPath) → Gives (λ written. reached_at (written_of written) self.new path input.new) result
+        ensures gives { (path : ACurrentPath)
+            → Gives (λ written. reached_at (written_of written) self.new path input.new) result
             (spec.control_ahead (given_to self.old) (configuration_of self.old path input.old)) }
         ensures pays { OnOk result (OnlyPays self.old self.new) }
     {
@@ -184,8 +188,10 @@ impl Drawer {
 
     /// The second control point: one with a sign starts from the end of the curve.
     fn second_control(&mut self, path: &CurrentPath, written: Written) -> Result<Control, Refusal>
-        ensures gives { (rest : Unread) → Gives (λ control. reached_at (control_of control) self.new path.now rest) result
-            (spec.second_control (given_to self.old) (written_of written) written.sign (configuration_of self.old path.now rest)) }
+        ensures gives { (rest : Unread)
+            → Gives (λ control. reached_at (control_of control) self.new path.now rest) result
+            (spec.second_control (given_to self.old) (written_of written) written.sign
+              (configuration_of self.old path.now rest)) }
         ensures pays { OnOk result (OnlyPays self.old self.new) }
     {
         match written.sign {

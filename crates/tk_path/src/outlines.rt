@@ -174,8 +174,8 @@ impl Drawer {
 
     // ---- grids
 
-    /// Draws a grid from the current point to the coordinate that is next, with options of its own; its word stands at that
-    /// place.
+    /// Draws a grid from the current point to the coordinate that is next, with options of its own; its word stands at
+    /// that place.
     #[tactic(auto, unfolding(crate::specs::Operations::grid))]
     pub(crate) fn grid(
         &mut self,

@@ -43,18 +43,21 @@ impl PathOpener {
 }
 
 impl Drawer {
-    /// Draws a path, from behind its command and what that begins with, to its `;`, inside the level that the caller opened: a
-    /// path with a piece widens the frame, and is an item if the look behind its last operation draws or fills it.
+    /// Draws a path, from behind its command and what that begins with, to its `;`, inside the level that the caller
+    /// opened: a path with a piece widens the frame, and is an item if the look behind its last operation draws or
+    /// fills it.
     ///
-    /// The operations are those of the PGF manual, section "Syntax for Path Specifications": coordinates, `--`, `-|`, `|-`,
-    /// `..`, `to`, `rectangle`, `circle`, `ellipse`, `arc`, `grid`, `cycle` as a target, groups and options. `PathSyntax`
-    /// stands at the first token that fits none, or where the list runs out; `Unbuilt` at `node`, `coordinate` and `foreach`,
-    /// and at the `(` of a node's name. `Coordinate` stands at a `(`, and `Singular`, `TooLarge` and `Domain` of what an
-    /// operation draws at its first token; `Levels` at the `{` or `[` that would open a 129th level. The faults of
-    /// expressions, keys and calls stand where those say. Behind a refusal nothing is said of the drawer.
+    /// The operations are those of the PGF manual, section "Syntax for Path Specifications": coordinates, `--`, `-|`,
+    /// `|-`, `..`, `to`, `rectangle`, `circle`, `ellipse`, `arc`, `grid`, `cycle` as a target, groups and options.
+    /// `PathSyntax` stands at the first token that fits none, or where the list runs out; `Unbuilt` at `node`,
+    /// `coordinate` and `foreach`, and at the `(` of a node's name. `Coordinate` stands at a `(`, and `Singular`,
+    /// `TooLarge` and `Domain` of what an operation draws at its first token; `Levels` at the `{` or `[` that would
+    /// open a 129th level. The faults of expressions, keys and calls stand where those say. Behind a refusal nothing is
+    /// said of the drawer.
     pub fn run_path(&mut self, input: &mut Input) -> Result<(), Refusal>
         requires sound { IsSound self.old }
-        ensures gives { (ev : Evaluation) → IsEvaluation ev → Gives (λ _. configuration_of self.new no_path input.new) result
+        ensures gives { (ev : Evaluation) → IsEvaluation ev
+            → Gives (λ _. configuration_of self.new no_path input.new) result
             (paths.path (given_of ev self.old.state) (configuration_of self.old no_path input.old)) }
         ensures sound { OnOk result (IsSound self.new) }
         ensures kept { OnOk result (Keeps self.old.state self.new.state) }
@@ -108,7 +111,8 @@ impl Drawer {
         first: Option<Tok>,
     ) -> Result<Flow, Refusal>
         ensures gives { Gives (path_flow_of self.new path.new input.new) result
-            (paths.part_from (given_to self.old) (paths.operations (given_to self.old)) opener (lookahead_of first self.old path.old input.old)) }
+            (paths.part_from (given_to self.old) (paths.operations (given_to self.old)) opener
+              (lookahead_of first self.old path.old input.old)) }
         ensures kept { OnOk result (KeepsDrawn self.old self.new) }
     {
         if opener.ends_at(first) {
@@ -133,7 +137,8 @@ impl Drawer {
         at: u32,
     ) -> Result<(), Refusal>
         ensures gives { Gives (λ _. configuration_of self.new path.new input.new) result
-            (paths.path_group (given_to self.old) (paths.operations (given_to self.old)) at (configuration_of self.old path.old input.old)) }
+            (paths.path_group (given_to self.old) (paths.operations (given_to self.old)) at
+              (configuration_of self.old path.old input.old)) }
         ensures kept { OnOk result (KeepsDrawn self.old self.new) }
     {
         self.state.open(at)?;

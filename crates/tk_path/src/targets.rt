@@ -6,7 +6,8 @@ ghost use Rattle.tk_expand.specs.Unread.{Unread};
 ghost use Rattle.tk_keys.specs.State.{env_of};
 ghost use Rattle.tk_path.specs.CurrentPaths.{CurrentPath as ACurrentPath, current_point, reference_point};
 ghost use Rattle.tk_path.specs.Targets as spec;
-ghost use Rattle.tk_path.specs.Views.{given_to, configuration_of, lookahead_of, reached_at, written_of, target_of, OnlyPays};
+ghost use Rattle.tk_path.specs.Views.{given_to, configuration_of, lookahead_of, reached_at, written_of, target_of};
+ghost use Rattle.tk_path.specs.Views.{OnlyPays};
 ghost use Rattle.tk_path.specs.Words.{begins_coordinate};
 ghost use Rattle.tk_expand.specs.Reading.{is_there as stands_there};
 
@@ -79,7 +80,8 @@ impl Drawer {
         input: &mut Input,
         first: Option<Tok>,
     ) -> Result<Written, Refusal>
-        ensures gives { (path : ACurrentPath) → Gives (λ written. reached_at (written_of written) self.new path input.new) result
+        ensures gives { (path : ACurrentPath)
+            → Gives (λ written. reached_at (written_of written) self.new path input.new) result
             (spec.coordinate_or_node (given_to self.old) (lookahead_of first self.old path input.old)) }
         ensures pays { OnOk result (OnlyPays self.old self.new) }
     {
@@ -110,7 +112,8 @@ impl Drawer {
     /// Reads the target that is next.
     #[tactic(auto, unfolding(crate::specs::Targets::target_ahead))]
     pub(crate) fn target_ahead(&mut self, input: &mut Input) -> Result<Target, Refusal>
-        ensures gives { (path : ACurrentPath) → Gives (λ target. reached_at (target_of target) self.new path input.new) result
+        ensures gives { (path : ACurrentPath)
+            → Gives (λ target. reached_at (target_of target) self.new path input.new) result
             (spec.target_ahead (given_to self.old) (configuration_of self.old path input.old)) }
         ensures pays { OnOk result (OnlyPays self.old self.new) }
     {

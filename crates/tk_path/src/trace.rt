@@ -33,8 +33,8 @@ pub(crate) struct Mesh {
     pub(crate) ystep: Scaled,
 }
 
-/// The path that is being read: its pieces so far, the current point and the point that relative coordinates start from, once
-/// there are such, and where the subpath began that goes on, if one does. The first piece is a `Move`.
+/// The path that is being read: its pieces so far, the current point and the point that relative coordinates start
+/// from, once there are such, and where the subpath began that goes on, if one does. The first piece is a `Move`.
 #[derive(Drop)]
 pub(crate) struct CurrentPath {
     segs: Segs,
@@ -244,7 +244,8 @@ impl CurrentPath {
 
     /// Where the last of curves ends, the first of which begins at the current point.
     fn last_end(&self, origin: &Point, segs: &[Seg]) -> Point
-        ensures { result ≡ spec.end_of_curve (spec.current_point origin.now self.now) (slice_get segs.now (length segs.now - 1)) }
+        ensures { result ≡ spec.end_of_curve (spec.current_point origin.now self.now)
+            (slice_get segs.now (length segs.now - 1)) }
     {
         match segs.last() {
             Some(Seg::Curve(_, _, end)) => *end,

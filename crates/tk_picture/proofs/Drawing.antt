@@ -20,7 +20,8 @@ use Rattle.tk_token.specs.Texts.{tokens_of}
 use Rattle.tk_picture.specs.Beginnings.{plain, path_begun}
 use Rattle.tk_path.specs.Pictures.{Picture, first_picture}
 
-module _ (given now : Given) (at : ℕ) (list inside : Unread) (new env : Env) (pic : Picture) (same : now ≡ given) (first : new ≡ first_env given) (none : pic ≡ first_picture) (name : after_name Unbuilt (codes "tikzpicture") list ≡ Ok inside) (within : level at new ≡ Ok env) where
+module _ (given now : Given) (at : ℕ) (list inside : Unread) (new env : Env) (pic : Picture) (same : now ≡ given) (first : new ≡ first_env given)
+    (none : pic ≡ first_picture) (name : after_name Unbuilt (codes "tikzpicture") list ≡ Ok inside) (within : level at new ≡ Ok env) where
   -- the commands of a picture
   abbrev inner : Given → Configuration → Answer Progress
   inner g c = styled_commands g (commands g) (codes "every picture") (A_picture at) c
@@ -32,18 +33,23 @@ module _ (given now : Given) (at : ℕ) (list inside : Unread) (new env : Env) (
   picture_starts : picture_behind given at list ≡ (inner given (configuration env first_picture inside) >>= last)
   unfolding picture_behind
   picture_starts =
-      then_is (after_name Unbuilt (codes "tikzpicture") list) (λ u. level at (first_env given) >>= λ e. inner given (configuration e first_picture u) >>= last) inside name
-      ∙ then_is (level at (first_env given)) (λ e. inner given (configuration e first_picture inside) >>= last) env (ap (level at) (sym first) ∙ within)
+      then_is (after_name Unbuilt (codes "tikzpicture") list) (λ u. level at (first_env given) >>= λ e. inner given (configuration e first_picture u)
+          >>= last) inside name
+      ∙ then_is (level at (first_env given)) (λ e. inner given (configuration e first_picture inside) >>= last) env
+          (ap (level at) (sym first) ∙ within)
 
   same_start : (r : Answer Progress) → inner now (configuration env pic inside) ≡ r → inner given (configuration env first_picture inside) ≡ r
-  same_start r h = ap (λ (start : Picture). inner given (configuration env start inside)) (sym none) ∙ ap (λ (g : Given). inner g (configuration env pic inside)) (sym same) ∙ h
+  same_start r h = ap (λ (start : Picture). inner given (configuration env start inside)) (sym none)
+      ∙ ap (λ (g : Given). inner g (configuration env pic inside)) (sym same) ∙ h
 
   -- a picture whose commands fail
   pub picture_fails : (e : Refusal) → Fails e (inner now (configuration env pic inside)) → Fails e (picture_behind given at list)
-  picture_fails e h = fails_as e _ _ picture_starts (fails_then e (inner given (configuration env first_picture inside)) last (subst (Fails e) (sym (same_start (inner now (configuration env pic inside)) (λ _. inner now (configuration env pic inside)))) h))
+  picture_fails e h = fails_as e _ _ picture_starts (fails_then e (inner given (configuration env first_picture inside)) last
+      (subst (Fails e) (sym (same_start (inner now (configuration env pic inside)) (λ _. inner now (configuration env pic inside)))) h))
 
   -- a picture with what stands behind it
-  pub picture_ends : (p : Progress) → inner now (configuration env pic inside) ≡ Ok p → picture_behind given at list ≡ nothing_after (compiled p.picture) (after_spaces p.list.rest)
+  pub picture_ends : (p : Progress) → inner now (configuration env pic inside) ≡ Ok p
+      → picture_behind given at list ≡ nothing_after (compiled p.picture) (after_spaces p.list.rest)
   picture_ends p done = picture_starts ∙ then_is (inner given (configuration env first_picture inside)) last p (same_start (Ok p) done)
 
 module _ (given now : Given) (keys : List ℕ) (at : ℕ) (c d : Configuration) (same : now ≡ given) (is : d ≡ plain c) where
@@ -56,7 +62,8 @@ module _ (given now : Given) (keys : List ℕ) (at : ℕ) (c d : Configuration) 
       (subst (λ (g : Given). Fails e (with_style g at (codes "every path") d)) same h))
 
   -- a path behind its style
-  pub style_goes : (later : Given) (begun : Configuration) → later ≡ given → with_style now at (codes "every path") d ≡ Ok begun → path_begun given keys at c ≡ with_keys later at (tokens_of at keys) begun
+  pub style_goes : (later : Given) (begun : Configuration) → later ≡ given → with_style now at (codes "every path") d ≡ Ok begun
+      → path_begun given keys at c ≡ with_keys later at (tokens_of at keys) begun
   unfolding path_begun
   style_goes later begun so done =
       then_is (with_style given at (codes "every path") (plain c)) (λ s. with_keys given at (tokens_of at keys) s) begun

@@ -6,5 +6,6 @@ use Rattle.tk_keys.proofs.DeedPlaces.{EvaluatesAt}
 use Rattle.tk_picture.specs.Outcome.{font_units}
 
 module _ (P : ℕ → Type 0) where
-  pub evaluates_at : (names : List (List ℕ)) (budget : ℕ) → EvaluatesAt P (record { names = names; evaluate = evaluated; font = font_units; budget = budget })
+  pub evaluates_at : (names : List (List ℕ)) (budget : ℕ)
+      → EvaluatesAt P (record { names = names; evaluate = evaluated; font = font_units; budget = budget })
   evaluates_at names budget at list p h = evaluated_at font_units at list P p h

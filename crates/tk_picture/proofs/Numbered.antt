@@ -25,6 +25,7 @@ module _ (names : List (List ℕ)) (once : EachOnce names) where
   pub numbers_back : (toks : List Tok) → All (λ (t : Tok). IsWordIn names t.kind) toks → map (tok_of names) (map (token_of names) toks) ≡ toks
   numbers_back [] h = refl
   numbers_back (t ∷ ts) h =
-      let first : tok_of names (token_of names t) ≡ t = ap (λ (k : Kind). (let u : Tok = record { kind = k; at = t.at } in u)) (kind_back t.kind (All-head (λ (t : Tok). IsWordIn names t.kind) t ts h)) in
+      let first : tok_of names (token_of names t) ≡ t = ap (λ (k : Kind). (let u : Tok = record { kind = k; at = t.at } in u))
+              (kind_back t.kind (All-head (λ (t : Tok). IsWordIn names t.kind) t ts h)) in
       let more = numbers_back ts (All-tail (λ (t : Tok). IsWordIn names t.kind) t ts h) in
       cc

@@ -33,14 +33,19 @@ abbrev pub given_words : List (List ℕ) → ℕ → Given
 given_words names budget = record { names = known_words names; evaluate = evaluated; font = font_units; budget = budget }
 
 -- what a first state gives
-given_first : (names : List (List ℕ)) (budget : ℕ) (font : FontUnits) (state : State) → IsFirst names font budget state → given_of evaluated state ≡ record { names = known_words names; evaluate = evaluated; font = font; budget = budget }
+given_first : (names : List (List ℕ)) (budget : ℕ) (font : FontUnits) (state : State) → IsFirst names font budget state
+    → given_of evaluated state ≡ record { names = known_words names; evaluate = evaluated; font = font; budget = budget }
 given_first names budget font state begun =
-    ap (λ (ns : List (List ℕ)). (let g : Given = record { names = ns; evaluate = evaluated; font = state.font; budget = state.budget } in g)) begun.names
-    ∙ ap (λ (f : FontUnits). (let g : Given = record { names = known_words names; evaluate = evaluated; font = f; budget = state.budget } in g)) begun.font
+    ap (λ (ns : List (List ℕ)). (let g : Given = record { names = ns; evaluate = evaluated; font = state.font; budget = state.budget } in g))
+        begun.names
+    ∙ ap (λ (f : FontUnits). (let g : Given = record { names = known_words names; evaluate = evaluated; font = f; budget = state.budget } in g))
+        begun.font
     ∙ ap (λ (b : ℕ). (let g : Given = record { names = known_words names; evaluate = evaluated; font = font; budget = b } in g)) begun.budget
 
 -- the code's run is over what is given
-pub ran_over : (names : List (List ℕ)) (budget : ℕ) (font : FontUnits) (state : State) (list : Unread) (toks : List Tok) (end : ℕ) → IsFirst names font budget state → font ≡ font_units → list ≡ unread toks end → document (given_of evaluated state) list ≡ document (given_words names budget) (unread toks end)
+pub ran_over : (names : List (List ℕ)) (budget : ℕ) (font : FontUnits) (state : State) (list : Unread) (toks : List Tok) (end : ℕ)
+    → IsFirst names font budget state → font ≡ font_units → list ≡ unread toks end
+    → document (given_of evaluated state) list ≡ document (given_words names budget) (unread toks end)
 ran_over names budget font state list toks end begun units told =
     ap (λ (g : Given). document g list) (given_first names budget font state begun)
     ∙ ap (λ (f : FontUnits). document (record { names = known_words names; evaluate = evaluated; font = f; budget = budget }) list) units
@@ -60,7 +65,8 @@ module _ (budget : ℕ) (source : List ℕ) where
   byte_text (refusals.Fault f) h = (refused_place source f h).text
   byte_text refusals.OutOfMemory h = tt
 
-  module _ (names : List (List ℕ)) (toks : List Tok) (lexed : Lexes source (Ok (map (token_of names) toks))) (numbers : names ≡ words_of (map (token_of names) toks)) (words : All (λ (t : Tok). IsWordIn names t.kind) toks) (once : EachOnce names) where
+  module _ (names : List (List ℕ)) (toks : List Tok) (lexed : Lexes source (Ok (map (token_of names) toks))) (numbers : names
+      ≡ words_of (map (token_of names) toks)) (words : All (λ (t : Tok). IsWordIn names t.kind) toks) (once : EachOnce names) where
     -- what the tokens come to
     pub comes_to : Answer Compiled
     comes_to = document (given_words names budget) (unread toks (length source))
@@ -69,12 +75,16 @@ module _ (budget : ℕ) (source : List ℕ) where
     same_toks = numbers_back names once toks words
 
     -- the tokens by their numbers draw what the tokens draw
-    drawn_is : document_of evaluated budget (length source) (map (token_of names) toks) ≡ document (given_words names budget) (unread toks (length source))
+    drawn_is : document_of evaluated budget (length source) (map (token_of names) toks)
+        ≡ document (given_words names budget) (unread toks (length source))
     drawn_is = by (words_of (map (token_of names) toks)) numbers
       where
-        by : (ws : List (List ℕ)) → names ≡ ws → document (given_words ws budget) (unread (map (tok_of ws) (map (token_of names) toks)) (length source)) ≡ document (given_words names budget) (unread toks (length source))
+        by : (ws : List (List ℕ)) → names ≡ ws
+            → document (given_words ws budget) (unread (map (tok_of ws) (map (token_of names) toks)) (length source))
+                ≡ document (given_words names budget) (unread toks (length source))
         by ws e =
-            ap (λ (vs : List (List ℕ)). document (given_words vs budget) (unread (map (tok_of vs) (map (token_of names) toks)) (length source))) (sym e)
+            ap (λ (vs : List (List ℕ)). document (given_words vs budget) (unread (map (tok_of vs) (map (token_of names) toks)) (length source)))
+                (sym e)
             ∙ ap (λ (ts : List Tok). document (given_words names budget) (unread ts (length source))) same_toks
 
     outcome : IsOutcome budget source (document (given_words names budget) (unread toks (length source)))
@@ -83,7 +93,8 @@ module _ (budget : ℕ) (source : List ℕ) where
     pub drawing_outcome : (c : Compiled) → document (given_words names budget) (unread toks (length source)) ≡ Ok c → IsOutcome budget source (Ok c)
     drawing_outcome c h = subst (IsOutcome budget source) h outcome
 
-    pub fault_outcome : (e : Refusal) → (r : Answer Compiled) → r ≡ document (given_words names budget) (unread toks (length source)) → Fails e r → OnFault e (λ f. IsOutcome budget source (Err f))
+    pub fault_outcome : (e : Refusal) → (r : Answer Compiled) → r ≡ document (given_words names budget) (unread toks (length source)) → Fails e r
+        → OnFault e (λ f. IsOutcome budget source (Err f))
     fault_outcome (refusals.Fault f) r is h = subst (IsOutcome budget source) (sym is ∙ h) outcome
     fault_outcome refusals.OutOfMemory r is h = tt
 
@@ -93,17 +104,21 @@ module _ (budget : ℕ) (source : List ℕ) where
 
     fault_at : (f : Fault) → document (given_words names budget) (unread toks (length source)) ≡ Err f → IsPlace source f.at
     fault_at f h = told (document (given_words names budget) (unread toks (length source))) h
-        (document_at (IsPlace source) (given_words names budget) (first_place source (map (token_of names) toks) lexed) (evaluates_at (IsPlace source) (known_words names) budget) (unread toks (length source)) (tok_places toks (token_places source (map (token_of names) toks) lexed)) (end_place source (map (token_of names) toks) lexed))
+        (document_at (IsPlace source) (given_words names budget) (first_place source (map (token_of names) toks) lexed) (evaluates_at (IsPlace source)
+            (known_words names) budget) (unread toks (length source)) (tok_places toks (token_places source (map (token_of names) toks) lexed))
+            (end_place source (map (token_of names) toks) lexed))
       where
         told : (m : Answer Compiled) → m ≡ Err f → Stands (IsPlace source) (λ _. Unit {0}) m → IsPlace source f.at
         told (Ok c) e k = absurd cc
         told (Err g) e k = (let same : g ≡ f = cc in subst (λ (g : Fault). IsPlace source g.at) same k)
 
-    pub fault_place : (e : Refusal) → (r : Answer Compiled) → r ≡ document (given_words names budget) (unread toks (length source)) → Fails e r → OnFault e (λ f. f.at ≤ length source)
+    pub fault_place : (e : Refusal) → (r : Answer Compiled) → r ≡ document (given_words names budget) (unread toks (length source)) → Fails e r
+        → OnFault e (λ f. f.at ≤ length source)
     fault_place (refusals.Fault f) r is h = (fault_at f (sym is ∙ h)).within
     fault_place refusals.OutOfMemory r is h = tt
 
-    pub fault_text : (e : Refusal) → (r : Answer Compiled) → r ≡ document (given_words names budget) (unread toks (length source)) → Fails e r → OnFault e (λ f. IsUtf8 (take f.at source))
+    pub fault_text : (e : Refusal) → (r : Answer Compiled) → r ≡ document (given_words names budget) (unread toks (length source)) → Fails e r
+        → OnFault e (λ f. IsUtf8 (take f.at source))
     fault_text (refusals.Fault f) r is h = (fault_at f (sym is ∙ h)).text
     fault_text refusals.OutOfMemory r is h = tt
 
@@ -111,7 +126,8 @@ module _ (budget : ℕ) (source : List ℕ) where
 
 -- each source has an outcome
 pub some_outcome : (budget : ℕ) (source : List ℕ) → (outcome : Answer Compiled) × IsOutcome budget source outcome
-some_outcome budget source = (let some = some_tokens source in (some.0 >>= document_of evaluated budget (length source), of_tokens some.1 evaluated_is_the_answer))
+some_outcome budget source =
+    (let some = some_tokens source in (some.0 >>= document_of evaluated budget (length source), of_tokens some.1 evaluated_is_the_answer))
 
 -- and only one
 pub one_outcome : (budget : ℕ) (source : List ℕ) (a b : Answer Compiled) → IsOutcome budget source a → IsOutcome budget source b → a ≡ b

@@ -15,7 +15,8 @@ use Rattle.tk_path.specs.Configurations.{Configuration, configuration}
 use Rattle.tk_picture.specs.Progress.{Progress, with_progress}
 use Rattle.tk_path.specs.Flow.{Goes_on}
 
-module _ (given : Given) (t : Tok) (opener : BlockOpener) (c : Configuration) (list : Unread) (inside : Env) (named : named_or UnknownCommand t.at (after_name UnknownCommand (codes "scope") c.list) ≡ Ok list) (within : level t.at c.env ≡ Ok inside) where
+module _ (given : Given) (t : Tok) (opener : BlockOpener) (c : Configuration) (list : Unread) (inside : Env) (named : named_or UnknownCommand t.at
+    (after_name UnknownCommand (codes "scope") c.list) ≡ Ok list) (within : level t.at c.env ≡ Ok inside) where
   -- the run goes on behind the scope
   abbrev behind : Progress → Answer CommandFlow
   behind q = Ok (Goes_on (with_progress c q))
@@ -26,7 +27,8 @@ module _ (given : Given) (t : Tok) (opener : BlockOpener) (c : Configuration) (l
 
   scope_goes : command given (commands given) Begins_environment t opener c ≡ (inner given (configuration inside c.picture list) >>= behind)
   scope_goes =
-      then_is (named_or UnknownCommand t.at (after_name UnknownCommand (codes "scope") c.list)) (λ list. level t.at c.env >>= λ inside. inner given (configuration inside c.picture list) >>= behind) list named
+      then_is (named_or UnknownCommand t.at (after_name UnknownCommand (codes "scope") c.list)) (λ list. level t.at c.env
+          >>= λ inside. inner given (configuration inside c.picture list) >>= behind) list named
       ∙ then_is (level t.at c.env) (λ inside. inner given (configuration inside c.picture list) >>= behind) inside within
 
   module _ (later : Given) (same : later ≡ given) (d : Configuration) (is : d ≡ configuration inside c.picture list) where
@@ -35,7 +37,8 @@ module _ (given : Given) (t : Tok) (opener : BlockOpener) (c : Configuration) (l
         fails_as e _ _ scope_goes (fails_then e (inner given (configuration inside c.picture list)) behind
         (subst (λ (d : Configuration). Fails e (inner given d)) is (subst (λ (g : Given). Fails e (inner g d)) same h)))
 
-    pub scope_ends : (q : Progress) → inner later d ≡ Ok q → command given (commands given) Begins_environment t opener c ≡ Ok (Goes_on (with_progress c q))
+    pub scope_ends : (q : Progress) → inner later d ≡ Ok q
+        → command given (commands given) Begins_environment t opener c ≡ Ok (Goes_on (with_progress c q))
     scope_ends q h =
         scope_goes ∙ then_is (inner given (configuration inside c.picture list)) behind q
         (ap (inner given) (sym is) ∙ ap (λ (g : Given). inner g d) (sym same) ∙ h)

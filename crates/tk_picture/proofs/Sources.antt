@@ -29,7 +29,8 @@ one_answer = lexes_same
 pub refused_place : (source : List ℕ) (f : Fault) → Lexes source (Err f) → IsPlace source f.at
 refused_place source f l = let at = before_fault source (Err f) l in record { within = at.0; text = at.1 }
 
-all_places : (source : List ℕ) (ts : List Token) → AllByRecursion (λ (t : Token). (t.at < length source) × IsUtf8 (take t.at source)) ts → AllByRecursion (λ (t : Token). IsPlace source t.at) ts
+all_places : (source : List ℕ) (ts : List Token) → AllByRecursion (λ (t : Token). (t.at < length source) × IsUtf8 (take t.at source)) ts
+    → AllByRecursion (λ (t : Token). IsPlace source t.at) ts
 all_places source [] h = tt
 all_places source (t ∷ ts) h = (record { within = (let k = h.0.0 in omega (arith, k)); text = h.0.1 }, all_places source ts h.1)
 
@@ -39,7 +40,8 @@ token_places source ts l = all_places source ts (before_tokens source (Ok ts) l)
 
 -- and its end
 pub end_place : (source : List ℕ) (ts : List Token) → Lexes source (Ok ts) → IsPlace source (length source)
-end_place source ts l = record { within = omega arith; text = subst IsUtf8 (sym (take_all (length source) source (omega arith))) (before_tokens source (Ok ts) l).0 }
+end_place source ts l = record { within = omega arith; text = subst IsUtf8 (sym (take_all (length source) source (omega arith)))
+    (before_tokens source (Ok ts) l).0 }
 
 -- and its beginning
 pub first_place : (source : List ℕ) (ts : List Token) → Lexes source (Ok ts) → IsPlace source 0

@@ -13,7 +13,9 @@ use Rattle.tk_keys.specs.Environment.{Env, level}
 use Rattle.tk_keys.specs.Given.{Given}
 use Rattle.tk_keys.proofs.Ran.{Any, any_list, any_env, any_evaluates}
 use Rattle.tk_keys.proofs.Standing.{ok_at, any_value}
-use Rattle.tk_picture.specs.Commands.{BlockOpener, A_picture, A_scope, A_group, Beginning, Begins_path, Opens_group, Closes_group, Begins_environment, Ends_environment, Begins_later, Begins_other, beginning_of, named_or, Block, block, CommandFlow, command, command_at, commands_step, block_work, commands}
+use Rattle.tk_picture.specs.Commands.{BlockOpener, A_picture, A_scope, A_group, Beginning, Begins_path, Opens_group, Closes_group, Begins_environment}
+use Rattle.tk_picture.specs.Commands.{Ends_environment, Begins_later, Begins_other, beginning_of, named_or, Block, block, CommandFlow, command}
+use Rattle.tk_picture.specs.Commands.{command_at, commands_step, block_work, commands}
 use Rattle.tk_path.specs.Keys.{with_style_and_options}
 use Rattle.tk_path.specs.Configurations.{Configuration, configuration, work_at, ahead_of}
 use Rattle.tk_path.specs.Keys.{with_env}
@@ -31,15 +33,19 @@ module _ (given : Given) where
   abbrev pub Falls : Configuration → CommandFlow → Type 0
   Falls c part = moves.PartAt Any given tt (any_evaluates given) c part
 
-  pub command_falls : (opener : BlockOpener) (token : Option Tok) (c : Configuration) → IfOk (command_at given (commands given) opener token c) (Falls c)
-  command_falls opener token c = ok_at Any (Falls c) (command_at given (commands given) opener token c) (moves.command_at_moves Any given tt (any_evaluates given) (commands given) (λ b k. moves.commands_move Any given tt (any_evaluates given) b k) opener token c tt (any_token token) (any_at given c))
+  pub command_falls : (opener : BlockOpener) (token : Option Tok) (c : Configuration)
+      → IfOk (command_at given (commands given) opener token c) (Falls c)
+  command_falls opener token c = ok_at Any (Falls c) (command_at given (commands given) opener token c) (moves.command_at_moves Any given tt
+      (any_evaluates given) (commands given) (λ b k. moves.commands_move Any given tt (any_evaluates given) b k) opener token c tt (any_token token)
+      (any_at given c))
     where
       any_token : (token : Option Tok) → TokenAt Any token
       any_token None = tt
       any_token (Some t) = tt
 
   module _ (f : Block → Answer Progress) (b : Block) (alike : (r : Block) → block_work given r < block_work given b → f r ≡ commands given r) where
-    command_alike : (beginning : Beginning) (t : Tok) (opener : BlockOpener) (c : Configuration) → work_at given c < block_work given b → command given f beginning t opener c ≡ command given (commands given) beginning t opener c
+    command_alike : (beginning : Beginning) (t : Tok) (opener : BlockOpener) (c : Configuration) → work_at given c < block_work given b
+        → command given f beginning t opener c ≡ command given (commands given) beginning t opener c
     command_alike (Begins_path keys) t opener c less = refl
     command_alike Opens_group t opener c less =
         then_alike (λ (e : Env). Unit {0}) (level t.at c.env) _ _ (any_value (level t.at c.env)) (λ inside _.
@@ -48,31 +54,40 @@ module _ (given : Given) where
     command_alike Closes_group t (A_scope at) c less = refl
     command_alike Closes_group t (A_group at) c less = refl
     command_alike Begins_environment t opener c less =
-        then_alike (Within Any (length c.list.rest) c.list.end) (named_or UnknownCommand t.at (after_name UnknownCommand (codes "scope") c.list)) _ _ (ok_at Any (Within Any (length c.list.rest) c.list.end) _ (moves.named_at Any given tt (any_evaluates given) UnknownCommand t.at (codes "scope") c.list tt (any_list c.list.rest) tt)) (λ list w.
+        then_alike (Within Any (length c.list.rest) c.list.end) (named_or UnknownCommand t.at (after_name UnknownCommand (codes "scope") c.list)) _ _
+            (ok_at Any (Within Any (length c.list.rest) c.list.end) _ (moves.named_at Any given tt (any_evaluates given) UnknownCommand t.at
+            (codes "scope") c.list tt (any_list c.list.rest) tt)) (λ list w.
         then_alike (λ (e : Env). Unit {0}) (level t.at c.env) _ _ (any_value (level t.at c.env)) (λ inside _.
         let d = configuration inside c.picture list in
         ap (λ (r : Answer Progress). r >>= λ p. Ok (Goes_on (with_progress c p)))
-        (then_alike (Comes Any given d) (with_style_and_options given t.at (codes "every scope") d) _ _ (ok_at Any (Comes Any given d) _ (styled_at Any given tt (any_evaluates given) t.at (codes "every scope") d tt (any_at given d))) (λ begun m.
+        (then_alike (Comes Any given d) (with_style_and_options given t.at (codes "every scope") d) _ _ (ok_at Any (Comes Any given d) _
+            (styled_at Any given tt (any_evaluates given) t.at (codes "every scope") d tt (any_at given d))) (λ begun m.
         alike (block (A_scope t.at) begun) (let a = m.fell.work_falls in let s = w.short in omega arith)))))
     command_alike Ends_environment t opener c less = refl
     command_alike Begins_later t opener c less = refl
     command_alike Begins_other t opener c less = refl
 
-    next_alike : (c : Configuration) → work_at given c < block_work given b → (part : CommandFlow) → Falls c part → go_on (λ next. f (block b.opener next)) part ≡ go_on (λ next. commands given (block b.opener next)) part
+    next_alike : (c : Configuration) → work_at given c < block_work given b → (part : CommandFlow) → Falls c part
+        → go_on (λ next. f (block b.opener next)) part ≡ go_on (λ next. commands given (block b.opener next)) part
     next_alike c less (Goes_on d) h = alike (block b.opener d) (let a = h.fell.work_falls in omega arith)
     next_alike c less (Finishes p) h = refl
 
-    at_alike : (token : Option Tok) (c : Configuration) → work_at given c + length (option_to_list token) ≤ block_work given b → (command_at given f b.opener token c >>= go_on (λ next. f (block b.opener next))) ≡ (command_at given (commands given) b.opener token c >>= go_on (λ next. commands given (block b.opener next)))
+    at_alike : (token : Option Tok) (c : Configuration) → work_at given c + length (option_to_list token) ≤ block_work given b
+        → (command_at given f b.opener token c >>= go_on (λ next. f (block b.opener next))) ≡ (command_at given (commands given) b.opener token c
+            >>= go_on (λ next. commands given (block b.opener next)))
     at_alike None c le = refl
     at_alike (Some t) c le =
         let less : work_at given c < block_work given b = omega arith in
-        ap (λ (r : Answer CommandFlow). r >>= go_on (λ next. f (block b.opener next))) (command_alike (beginning_of given.names t.kind) t b.opener c less)
-        ∙ then_alike (Falls c) (command_at given (commands given) b.opener (Some t) c) _ _ (command_falls b.opener (Some t) c) (λ part h. next_alike c less part h)
+        ap (λ (r : Answer CommandFlow). r >>= go_on (λ next. f (block b.opener next))) (command_alike (beginning_of given.names t.kind) t
+            b.opener c less)
+        ∙ then_alike (Falls c) (command_at given (commands given) b.opener (Some t) c) _ _ (command_falls b.opener (Some t) c)
+            (λ part h. next_alike c less part h)
 
   commands_pinned : IsPinned (block_work given) (fault Budget 0) (commands_step given)
   unfolding commands
   commands_pinned f b alike =
-      then_alike (Looks Any given b.start) (ahead_of given b.start) _ _ (looks_any given b.start) (λ first h. at_alike f b alike first.token first.behind (let a = h.takes.work_falls in omega arith))
+      then_alike (Looks Any given b.start) (ahead_of given b.start) _ _ (looks_any given b.start) (λ first h. at_alike f b alike first.token
+          first.behind (let a = h.takes.work_falls in omega arith))
 
   pub commands_are : (b : Block) → commands given b ≡ commands_step given (commands given) b
   unfolding commands

@@ -21,8 +21,8 @@ use Rattle.tk_path.specs.Configurations.{Configuration, configuration, situation
 use Rattle.tk_picture.specs.Beginnings.{whole_path}
 use Rattle.tk_picture.specs.Progress.{Progress, progress, progress_at, with_progress}
 
--- what commands stand in, with its place: a picture, to its `\end{tikzpicture}`, a scope, to its `\end{scope}`, or a group, to
--- its `}`
+-- what commands stand in, with its place: a picture, to its `\end{tikzpicture}`, a scope, to its `\end{scope}`, or a
+-- group, to its `}`
 pub data BlockOpener : Type 0 where
   A_picture : ℕ → BlockOpener
   A_scope : ℕ → BlockOpener

@@ -28,7 +28,8 @@ no_frame = record { left = pos 0; bottom = pos 0; right = pos 0; top = pos 0 }
 
 -- the drawing of a picture, in which the font is `monospace` of 10pt, and the units paid
 abbrev pub compiled : Picture → Compiled
-compiled pic = record { drawing = record { frame = unwrap_or pic.frame no_frame; family = codes "monospace"; size = pos 655360; items = pic.items }; units = pic.units }
+compiled pic = record { drawing = record { frame = unwrap_or pic.frame no_frame; family = codes "monospace";
+    size = pos 655360; items = pic.items }; units = pic.units }
 
 -- nothing is left but Spaces
 abbrev pub nothing_after : Compiled → List Tok → Answer Compiled
@@ -41,11 +42,13 @@ module _ (given : Given) where
   picture_behind at list = do
     inside ← after_name Unbuilt (codes "tikzpicture") list
     env ← level at (first_env given)
-    end ← styled_commands given (commands given) (codes "every picture") (A_picture at) (configuration env first_picture inside)
+    end ← styled_commands given (commands given) (codes "every picture") (A_picture at)
+        (configuration env first_picture inside)
     nothing_after (compiled end.picture) (after_spaces end.list.rest)
 
   -- a whole source: `\begin{tikzpicture}`, options, commands and `\end{tikzpicture}`
   unfoldable pub document : Unread → Answer Compiled
   document list = do
     first ← next_token Unbuilt (past_spaces list)
-    if is_word given.names (codes "begin") first.value.kind then picture_behind first.value.at first.list else fault Unbuilt first.value.at
+    if is_word given.names (codes "begin") first.value.kind then picture_behind first.value.at first.list
+        else fault Unbuilt first.value.at

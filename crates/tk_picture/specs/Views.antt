@@ -15,7 +15,8 @@ use Rattle.tk_picture.specs.declared.commands.BlockOpener as code_opener
 use Rattle.tk_picture.specs.declared.commands.BlockOpener.TheVariants as openers
 use Rattle.tk_picture.specs.declared.commands.Beginning as code_beginning
 use Rattle.tk_picture.specs.declared.commands.Beginning.TheVariants as beginnings
-use Rattle.tk_picture.specs.Commands.{BlockOpener, A_picture, A_scope, A_group, Beginning, Begins_path, Opens_group, Closes_group, Begins_environment, Ends_environment, Begins_later, Begins_other}
+use Rattle.tk_picture.specs.Commands.{BlockOpener, A_picture, A_scope, A_group, Beginning, Begins_path, Opens_group}
+use Rattle.tk_picture.specs.Commands.{Closes_group, Begins_environment, Ends_environment, Begins_later, Begins_other}
 use Rattle.tk_picture.specs.Progress.{Progress, progress}
 
 -- how far the run has come, where no path is being read

@@ -2,7 +2,9 @@
 
 ghost use Rattle.std.specs.Prelude.{◌≡◌, ◌<◌, length, OnOk};
 ghost use Rattle.tk_token.specs.Refusals.{Gives};
-ghost use Rattle.tk_picture.specs.Commands.{BlockOpener as AnOpener, place_of_opener, Begins_path, Opens_group, Begins_environment, Begins_other, begun_by, beginning_of, named_or, end_behind, styled_commands, block, command, command_at, commands};
+ghost use Rattle.tk_picture.specs.Commands.{BlockOpener as AnOpener, place_of_opener, Begins_path, Opens_group};
+ghost use Rattle.tk_picture.specs.Commands.{Begins_environment, Begins_other, begun_by, beginning_of, named_or};
+ghost use Rattle.tk_picture.specs.Commands.{end_behind, styled_commands, block, command, command_at, commands};
 ghost use Rattle.tk_expand.specs.Reading.{after_name};
 ghost use Rattle.tk_expand.specs.Tells.{Tells};
 ghost use Rattle.tk_expand.specs.Unread.{Unread};
@@ -86,7 +88,8 @@ fn command_at(
 ) -> Result<Flow, Refusal>
     requires sound { IsSound drawer.old }
     ensures gives { Gives (flow_of drawer.new input.new) result
-        (command_at (given_to drawer.old) (commands (given_to drawer.old)) (opener_of opener) first (place_of_run drawer.old input.old)) }
+        (command_at (given_to drawer.old) (commands (given_to drawer.old)) (opener_of opener) first
+          (place_of_run drawer.old input.old)) }
     ensures sound { OnOk result (IsSound drawer.new) }
     ensures kept { OnOk result (Keeps drawer.old.state drawer.new.state) }
 {
@@ -107,7 +110,8 @@ fn command(
 ) -> Result<Flow, Refusal>
     requires sound { IsSound drawer.old }
     ensures gives { Gives (flow_of drawer.new input.new) result
-        (command (given_to drawer.old) (commands (given_to drawer.old)) (begun_of beginning) first (opener_of opener) (place_of_run drawer.old input.old)) }
+        (command (given_to drawer.old) (commands (given_to drawer.old)) (begun_of beginning) first (opener_of opener)
+          (place_of_run drawer.old input.old)) }
     ensures sound { OnOk result (IsSound drawer.new) }
     ensures kept { OnOk result (Keeps drawer.old.state drawer.new.state) }
 {
@@ -133,7 +137,8 @@ fn command(
 fn scope(drawer: &mut Drawer, input: &mut Input, first: Tok) -> Result<Flow, Refusal>
     requires sound { IsSound drawer.old }
     ensures gives { (opener : AnOpener) → Gives (flow_of drawer.new input.new) result
-        (command (given_to drawer.old) (commands (given_to drawer.old)) Begins_environment first opener (place_of_run drawer.old input.old)) }
+        (command (given_to drawer.old) (commands (given_to drawer.old)) Begins_environment first opener
+          (place_of_run drawer.old input.old)) }
     ensures sound { OnOk result (IsSound drawer.new) }
     ensures kept { OnOk result (Keeps drawer.old.state drawer.new.state) }
 {
@@ -159,7 +164,8 @@ pub(crate) fn styled_commands(
 ) -> Result<(), Refusal>
     requires sound { IsSound drawer.old }
     ensures gives { Gives (λ _. progress_of drawer.new input.new) result
-        (styled_commands (given_to drawer.old) (commands (given_to drawer.old)) (style_name style) (opener_of opener) (place_of_run drawer.old input.old)) }
+        (styled_commands (given_to drawer.old) (commands (given_to drawer.old)) (style_name style) (opener_of opener)
+          (place_of_run drawer.old input.old)) }
     ensures sound { OnOk result (IsSound drawer.new) }
     ensures kept { OnOk result (Keeps drawer.old.state drawer.new.state) }
 {
@@ -182,7 +188,8 @@ fn run_styled(drawer: &mut Drawer, input: &mut Input, style: Style, at: u32) -> 
 fn group(drawer: &mut Drawer, input: &mut Input, first: Tok) -> Result<Flow, Refusal>
     requires sound { IsSound drawer.old }
     ensures gives { (opener : AnOpener) → Gives (flow_of drawer.new input.new) result
-        (command (given_to drawer.old) (commands (given_to drawer.old)) Opens_group first opener (place_of_run drawer.old input.old)) }
+        (command (given_to drawer.old) (commands (given_to drawer.old)) Opens_group first opener
+          (place_of_run drawer.old input.old)) }
     ensures sound { OnOk result (IsSound drawer.new) }
     ensures kept { OnOk result (Keeps drawer.old.state drawer.new.state) }
 {
@@ -201,7 +208,8 @@ fn draw_path(
 ) -> Result<Flow, Refusal>
     requires sound { IsSound drawer.old }
     ensures gives { (opener : AnOpener) → Gives (flow_of drawer.new input.new) result
-        (command (given_to drawer.old) (commands (given_to drawer.old)) (Begins_path keys.now) first opener (place_of_run drawer.old input.old)) }
+        (command (given_to drawer.old) (commands (given_to drawer.old)) (Begins_path keys.now) first opener
+          (place_of_run drawer.old input.old)) }
     ensures sound { OnOk result (IsSound drawer.new) }
     ensures kept { OnOk result (Keeps drawer.old.state drawer.new.state) }
 {
@@ -249,7 +257,8 @@ fn unpaint(drawer: &mut Drawer)
 fn set(drawer: &mut Drawer, input: &mut Input, first: Tok) -> Result<Flow, Refusal>
     requires sound { IsSound drawer.old }
     ensures gives { (opener : AnOpener) → Gives (flow_of drawer.new input.new) result
-        (command (given_to drawer.old) (commands (given_to drawer.old)) Begins_other first opener (place_of_run drawer.old input.old)) }
+        (command (given_to drawer.old) (commands (given_to drawer.old)) Begins_other first opener
+          (place_of_run drawer.old input.old)) }
     ensures sound { OnOk result (IsSound drawer.new) }
     ensures kept { OnOk result (Keeps drawer.old.state drawer.new.state) }
 {

@@ -36,38 +36,39 @@ const EM: i64 = 655_360;
 /// An ex of that font, 4.3pt.
 const EX: i64 = 281_805;
 
-/// The drawing of a source, and the units that it costs: `\begin{tikzpicture}`, options in brackets or none, commands and
-/// `\end{tikzpicture}`, with nothing but Spaces round them. A command is a path, a scope, a setting or a group; settings are
-/// the definitions of macros, of keys and of styles. It takes time and memory linear in the source's length and the units,
-/// and for a power time linear in its exponent. docs/LANGUAGE.md has the language.
+/// The drawing of a source, and the units that it costs: `\begin{tikzpicture}`, options in brackets or none, commands
+/// and `\end{tikzpicture}`, with nothing but Spaces round them. A command is a path, a scope, a setting or a group;
+/// settings are the definitions of macros, of keys and of styles. It takes time and memory linear in the source's
+/// length and the units, and for a power time linear in its exponent. docs/LANGUAGE.md has the language.
 ///
 /// A path has coordinates, operations, options and groups, up to its `;`. The look at the `;` says how it is drawn and
-/// filled; with pieces it widens the frame even where it is neither. Picture, scope, group and path are levels: what is set
-/// in one ends with it. A picture runs the style `every picture` before its options, a scope `every scope`, and a path
-/// `every path` and then the keys of its command. Options set the look, or put a step behind those of the transformation.
+/// filled; with pieces it widens the frame even where it is neither. Picture, scope, group and path are levels: what is
+/// set in one ends with it. A picture runs the style `every picture` before its options, a scope `every scope`, and a
+/// path `every path` and then the keys of its command. Options set the look, or put a step behind those of the
+/// transformation.
 ///
-/// Macro calls are expanded, and paid for out of the budget, as the code of keys is: one unit more than the tokens of the
-/// text. A line of a grid costs a unit. A coordinate ends, as it is written, at the first `)` outside braces, and is then
-/// expanded. A number without a unit counts the vectors `x` and `y` of the look, which are 1cm long unless a key sets them,
-/// and the transformation of that moment takes the point to its place.
+/// Macro calls are expanded, and paid for out of the budget, as the code of keys is: one unit more than the tokens of
+/// the text. A line of a grid costs a unit. A coordinate ends, as it is written, at the first `)` outside braces, and
+/// is then expanded. A number without a unit counts the vectors `x` and `y` of the look, which are 1cm long unless a
+/// key sets them, and the transformation of that moment takes the point to its place.
 ///
-/// A source that stands for no drawing is refused at its first fault: first those of `lex`, then those of running it from
-/// the front on.
+/// A source that stands for no drawing is refused at its first fault: first those of `lex`, then those of running it
+/// from the front on.
 ///
-/// - `MacroSyntax` comes at the first token that doesn't fit a definition, or at the source's length, `MacroArg` at the word
-///   of a call that lacks an argument, and `Budget` at what can't be paid: a call, the part of a key, or a grid.
-/// - Those of keys stand at the part of their key list, and those of its code in the code; `KeyDepth` stands at the command
-///   that would run a 257th key list.
+/// - `MacroSyntax` comes at the first token that doesn't fit a definition, or at the source's length, `MacroArg` at the
+///   word of a call that lacks an argument, and `Budget` at what can't be paid: a call, the part of a key, or a grid.
+/// - Those of keys stand at the part of their key list, and those of its code in the code; `KeyDepth` stands at the
+///   command that would run a 257th key list.
 /// - `Levels` comes at the command, the `{` or the `[` that would open a 129th level.
 /// - `UnknownCommand` comes at the first token of what is no command, and at a `\begin` of another name.
-/// - `EndMismatch` comes at an `\end` or `}` that doesn't end what was opened last, and at what was opened last where the
-///   source ends before it.
+/// - `EndMismatch` comes at an `\end` or `}` that doesn't end what was opened last, and at what was opened last where
+///   the source ends before it.
 /// - Those of a path are told at `Drawer::run_path`, and those of a coordinate at `resolve`.
-/// - `Expression`, `TooDeep`, `TooLarge`, `DivZero` and `Domain` come in an expression. `TooLarge` also comes at the `(` of a
-///   coordinate whose lengths or whose point are out of range, and at the part of a key that makes a number of the
-///   transformation so.
-/// - `Unbuilt` comes before the picture and behind it at the first token with which no source of the form goes on, at the
-///   source's length where it ends outside the picture, and at `\node`, `\coordinate` and `\foreach`.
+/// - `Expression`, `TooDeep`, `TooLarge`, `DivZero` and `Domain` come in an expression. `TooLarge` also comes at the
+///   `(` of a coordinate whose lengths or whose point are out of range, and at the part of a key that makes a number of
+///   the transformation so.
+/// - `Unbuilt` comes before the picture and behind it at the first token with which no source of the form goes on, at
+///   the source's length where it ends outside the picture, and at `\node`, `\coordinate` and `\foreach`.
 pub fn compile(alloc: Global, source: &[u8], budget: u64) -> Result<Compiled, Refusal>
     requires short { length source.now ≤ 16777216 }
     requires few { budget ≤ 20000000 }
@@ -95,7 +96,8 @@ pub fn compile(alloc: Global, source: &[u8], budget: u64) -> Result<Compiled, Re
 #[tactic(auto, unfolding(crate::specs::Documents::document))]
 fn document(drawer: &mut Drawer, input: &mut Input) -> Result<(), Refusal>
     requires { IsNew drawer.old }
-    ensures gives { Gives (λ _. compiled (picture_of drawer.new no_path)) result (document (given_to drawer.old) input.old) }
+    ensures gives { Gives (λ _. compiled (picture_of drawer.new no_path)) result
+        (document (given_to drawer.old) input.old) }
     ensures sound { OnOk result (IsSound drawer.new) }
 {
     input.skip_spaces();
@@ -110,7 +112,8 @@ fn document(drawer: &mut Drawer, input: &mut Input) -> Result<(), Refusal>
 #[tactic(auto, unfolding(crate::specs::Documents::picture_behind))]
 fn picture(drawer: &mut Drawer, input: &mut Input, at: u32) -> Result<(), Refusal>
     requires { IsNew drawer.old }
-    ensures gives { Gives (λ _. compiled (picture_of drawer.new no_path)) result (picture_behind (given_to drawer.old) at input.old) }
+    ensures gives { Gives (λ _. compiled (picture_of drawer.new no_path)) result (picture_behind (given_to drawer.old)
+        at input.old) }
     ensures sound { OnOk result (IsSound drawer.new) }
 {
     input.expect_name(Code::Unbuilt, b"tikzpicture")?;

@@ -37,7 +37,8 @@ module _ {K X : Type 0} {R : K → K → Ordering} (total : IsTotalOrder R) (exa
     leaves false b h old new = refl
 
     -- what is found once a key has an entry
-    lookup_inserted : (es : List (K × X)) → lookup (eq_by_cmp R q) (insert_entry (eq_by_cmp R) es k v) ≡ cond (eq_by_cmp R q k) (Some v) (lookup (eq_by_cmp R q) es)
+    lookup_inserted : (es : List (K × X))
+        → lookup (eq_by_cmp R q) (insert_entry (eq_by_cmp R) es k v) ≡ cond (eq_by_cmp R q k) (Some v) (lookup (eq_by_cmp R q) es)
     lookup_inserted [] = refl
     lookup_inserted (e ∷ es) = go (eq_by_cmp R k e.0) refl (lookup_inserted es)
       where

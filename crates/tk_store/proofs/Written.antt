@@ -74,7 +74,8 @@ module _ (args : ℕ) (done rest : List Tok) (answer : Answer (List Tok)) (told 
 
   module _ (t : Tok) (ts : List Tok) (is : rest ≡ t ∷ ts) where
     -- the first stands for a token, and the rest is left
-    pub goes : (first : Tok) (behind new : List Tok) → first_kept args t ts ≡ Ok (kept first behind) → new ≡ done ++ first ∷ [] → answer ≡ onto new (body_of args behind)
+    pub goes : (first : Tok) (behind new : List Tok) → first_kept args t ts ≡ Ok (kept first behind) → new ≡ done ++ first ∷ []
+        → answer ≡ onto new (body_of args behind)
     goes first behind new known pushed =
         told ∙ ap (λ (ts : List Tok). onto done (body_of args ts)) is
         ∙ ap (onto done) (body_is args t ts ∙ then_is (first_kept args t ts) (from_kept args) (kept first behind) known)

@@ -1,5 +1,5 @@
-//! Macros by their words and keys by their paths, in levels: what is set at a level ends with it. And the bodies of macros,
-//! as they are written and as they are kept.
+//! Macros by their words and keys by their paths, in levels: what is set at a level ends with it. And the bodies of
+//! macros, as they are written and as they are kept.
 #![tactic(auto)]
 
 ghost use Rattle.std.specs.Prelude.{◌≡◌, IfOk};

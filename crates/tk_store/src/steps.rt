@@ -5,12 +5,12 @@ ghost use Rattle.std.specs.Prelude.{◌≡◌, ◌+◌, ◌<◌};
 use std::marker::Model;
 use std::sync::ledger::{Blank, Book, Ledger, Share};
 
-/// How many steps were taken, which a clause sees as a number. It takes no bytes at run time, and only `tick` changes it.
-/// What a step is says the function that counts: for `Store::close` it is one setting that is undone.
+/// How many steps were taken, which a clause sees as a number. It takes no bytes at run time, and only `tick` changes
+/// it. What a step is says the function that counts: for `Store::close` it is one setting that is undone.
 ///
-/// A caller that counts for its own caller takes `steps: &mut Steps<L>` and hands it on. One that counts for nobody makes a
-/// counter in a function of its own, `fn f<L: Ledger>(.., blank: Blank)` with what `new` requires, and calls that at
-/// `f::<Brand>(.., Blank::new(1))`, as `Store::close_uncounted` does.
+/// A caller that counts for its own caller takes `steps: &mut Steps<L>` and hands it on. One that counts for nobody
+/// makes a counter in a function of its own, `fn f<L: Ledger>(.., blank: Blank)` with what `new` requires, and calls
+/// that at `f::<Brand>(.., Blank::new(1))`, as `Store::close_uncounted` does.
 #[derive(Drop)]
 pub struct Steps<L: Ledger> {
     book: Book<L>,

@@ -68,7 +68,8 @@ impl Store {
         self.tables.get_key(path)
     }
 
-    /// Gives the word with that number a macro, until the current level is closed. On want of memory all stays as it was.
+    /// Gives the word with that number a macro, until the current level is closed. On want of memory all stays as it
+    /// was.
     pub fn set_macro(&mut self, name: u32, value: Macro) -> Result<(), AllocError>
         ensures ok { OnOk result (SetsMacro self.old self.new name value) }
         ensures err { OnErr result (self.new ≡ self.old) }
@@ -82,7 +83,8 @@ impl Store {
         Ok(())
     }
 
-    /// Gives the key with that full path an entry, until the current level is closed. On want of memory all stays as it was.
+    /// Gives the key with that full path an entry, until the current level is closed. On want of memory all stays as it
+    /// was.
     pub fn set_key(&mut self, path: &str, entry: Entry) -> Result<(), AllocError>
         ensures ok { OnOk result (SetsKey self.old self.new path.now entry) }
         ensures err { OnErr result (self.new ≡ self.old) }
@@ -104,8 +106,8 @@ impl Store {
         self.marks.push(self.saved.len());
     }
 
-    /// Closes the current level: what was set at it ends. This takes no memory, and looks only at what was set: a step is one
-    /// setting that is undone.
+    /// Closes the current level: what was set at it ends. This takes no memory, and looks only at what was set: a step
+    /// is one setting that is undone.
     pub fn close<L: Ledger>(&mut self, steps: &mut Steps<L>)
         requires { 0 < length self.old.outer }
         ensures outer { self.old.outer ≡ self.new.top ∷ self.new.outer }

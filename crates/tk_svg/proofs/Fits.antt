@@ -1,5 +1,6 @@
 -- Whatever a document stands for fits the form.
-use Rattle.std.proofs.Common.{◌≡◌, ℕ, zero, suc, ◌+◌, ◌≤◌, Bool, ◌&&◌, true, false, cond, eqb, ltb, leb, List, [], ◌∷◌, length, Option, Some, None, refl, sym, subst, arith}
+use Rattle.std.proofs.Common.{◌≡◌, ℕ, zero, suc, ◌+◌, ◌≤◌, Bool, ◌&&◌, true, false, cond, eqb, ltb, leb, List, [], ◌∷◌, length, Option, Some, None}
+use Rattle.std.proofs.Common.{refl, sym, subst, arith}
 use Rattle.std.specs.Prelude.{ℤ, pos, negsuc, neg_ℤ, ◌+ℤ◌, ◌-ℤ◌, ◌≤ℤ◌, int_le, unsigned_abs, codes, option_map}
 use Rattle.std.specs.List.{AllByRecursion}
 use Rattle.std.proofs.lemmas.Bool.{leb-true}
@@ -14,7 +15,8 @@ use Rattle.tk_item.specs.declared.Item.TheVariants.{Path}
 use Rattle.tk_item.specs.declared.Frame.{Frame}
 use Rattle.tk_item.specs.declared.Drawing.{Drawing}
 use Rattle.tk_characters.specs.Options.{◌and_then◌}
-use Rattle.tk_svg.specs.Scan.{Attribute, value_of, digits_of, after_digits, digits_behind_point, after_part, unsigned_from, unsigned_at, number_at, numbers_of, lone_number, scaled_of, is_empty, behind_separator}
+use Rattle.tk_svg.specs.Scan.{Attribute, value_of, digits_of, after_digits, digits_behind_point, after_part, unsigned_from, unsigned_at, number_at}
+use Rattle.tk_svg.specs.Scan.{numbers_of, lone_number, scaled_of, is_empty, behind_separator}
 use Rattle.tk_svg.specs.PathData.{PathCommand, MoveTo, scaled_point, command_piece, command_pieces}
 use Rattle.tk_svg.specs.Paint.{value_or_initial, paint_of, is_length, length_value, cap_of, join_of, miter_of, dashes_of, stroke_of}
 use Rattle.tk_svg.specs.Document.{IsPathElement, Content, ends, path, IsDocument}
@@ -38,7 +40,8 @@ unfolding unsigned_at unsigned_from
 unsigned_fits bytes u e =
     let whole = digits_of bytes in
     let part = digits_behind_point (after_digits bytes) in
-    let t = test_back (ltb 0 (length whole + length part) && leb (value_of whole part) 4294967295) (value_of whole part, after_part (after_digits bytes)) u e in
+    let t = test_back (ltb 0 (length whole + length part) && leb (value_of whole part) 4294967295) (value_of whole part, after_part
+            (after_digits bytes)) u e in
     let le : value_of whole part ≤ 4294967295 = leb-true _ _ (and_true _ _ t.0).1 in
     subst (λ (w : ℕ × List ℕ). w.0 ≤ 4294967295) t.1 le
 
@@ -46,7 +49,8 @@ abs-neg : (n : ℕ) → unsigned_abs (neg_ℤ (pos n)) ≡ n
 abs-neg zero = refl
 abs-neg (suc n) = refl
 
-signed_fits : (f : ℕ → ℤ) → ((n : ℕ) → unsigned_abs (f n) ≡ n) → (bytes : List ℕ) (x : ℤ × List ℕ) → (unsigned_at bytes and_then λ u. Some (f u.0, u.1)) ≡ Some x → FitsBox x.0
+signed_fits : (f : ℕ → ℤ) → ((n : ℕ) → unsigned_abs (f n) ≡ n) → (bytes : List ℕ) (x : ℤ × List ℕ)
+    → (unsigned_at bytes and_then λ u. Some (f u.0, u.1)) ≡ Some x → FitsBox x.0
 signed_fits f same bytes x e =
     let s = step_back (unsigned_at bytes) (λ u. Some (f u.0, u.1)) x e in
     let le = unsigned_fits bytes s.0 s.1 in
@@ -59,7 +63,10 @@ unfolding number_at
 number_fits [] x e = absurd cc
 number_fits (c ∷ cs) x e = by_sign (eqb c 45) (eqb c 43) e
   where
-    by_sign : (minus plus : Bool) → cond minus (unsigned_at cs and_then λ u. Some (neg_ℤ (pos u.0), u.1)) (cond plus (unsigned_at cs and_then λ u. Some (pos u.0, u.1)) (unsigned_at (c ∷ cs) and_then λ u. Some (pos u.0, u.1))) ≡ Some x → FitsBox x.0
+    by_sign : (minus plus : Bool)
+        → cond minus (unsigned_at cs and_then λ u. Some (neg_ℤ (pos u.0), u.1)) (cond plus (unsigned_at cs and_then λ u. Some (pos u.0, u.1))
+            (unsigned_at (c ∷ cs) and_then λ u. Some (pos u.0, u.1))) ≡ Some x
+        → FitsBox x.0
     by_sign true plus f = signed_fits (λ n. neg_ℤ (pos n)) abs-neg cs x f
     by_sign false true f = signed_fits (λ n. pos n) (λ n. refl) cs x f
     by_sign false false f = signed_fits (λ n. pos n) (λ n. refl) (c ∷ cs) x f
@@ -68,10 +75,13 @@ numbers_fit : (n : ℕ) (value : List ℕ) (xs : List ℤ) → numbers_of n valu
 unfolding numbers_of
 numbers_fit zero value xs e = absurd cc
 numbers_fit (suc n) value xs e =
-    let s = step_back (number_at value) (λ x. cond (is_empty x.1) (Some (x.0 ∷ [])) (behind_separator x.1 and_then λ next. numbers_of n next and_then λ more. Some (x.0 ∷ more))) xs e in
+    let s = step_back (number_at value) (λ x. cond (is_empty x.1) (Some (x.0 ∷ [])) (behind_separator x.1 and_then λ next. numbers_of n next and_then
+            λ more. Some (x.0 ∷ more))) xs e in
     by_end s.0 (number_fits value s.0 s.1) (λ (next : List ℕ) (more : List ℤ). numbers_fit n next more) (is_empty s.0.1) s.2
   where
-    by_end : (x : ℤ × List ℕ) → FitsBox x.0 → ((next : List ℕ) (more : List ℤ) → numbers_of n next ≡ Some more → AllByRecursion FitsBox more) → (b : Bool) → cond b (Some (x.0 ∷ [])) (behind_separator x.1 and_then λ next. numbers_of n next and_then λ more. Some (x.0 ∷ more)) ≡ Some xs → AllByRecursion FitsBox xs
+    by_end : (x : ℤ × List ℕ) → FitsBox x.0 → ((next : List ℕ) (more : List ℤ) → numbers_of n next ≡ Some more → AllByRecursion FitsBox more)
+        → (b : Bool) → cond b (Some (x.0 ∷ [])) (behind_separator x.1 and_then λ next. numbers_of n next and_then λ more. Some (x.0 ∷ more)) ≡ Some xs
+        → AllByRecursion FitsBox xs
     by_end x h fit true f = let is : x.0 ∷ [] ≡ xs = cc in subst (AllByRecursion FitsBox) is (h, tt)
     by_end x h fit false f =
         let s = step_back (behind_separator x.1) (λ next. numbers_of n next and_then λ more. Some (x.0 ∷ more)) xs f in
@@ -81,7 +91,8 @@ numbers_fit (suc n) value xs e =
 
 -- ---- paths
 
-first_command_begins : (segs : List Seg) (args : List ℤ) (others : List PathCommand) → command_pieces ((MoveTo, args) ∷ others) ≡ Some segs → BeginsWithMove segs
+first_command_begins : (segs : List Seg) (args : List ℤ) (others : List PathCommand) → command_pieces ((MoveTo, args) ∷ others) ≡ Some segs
+    → BeginsWithMove segs
 first_command_begins segs [] others e = absurd cc
 first_command_begins segs (x ∷ []) others e = absurd cc
 first_command_begins segs (x ∷ (y ∷ [])) others e =
@@ -110,7 +121,8 @@ miter_least value m e =
     let here : pos 65536 ≤ℤ s.0 = omega (arith, ints) in
     subst (λ (z : ℤ). pos 65536 ≤ℤ z) t.1 here
 
-pen_fits : (paint : Option Rgb) (pen : Rgb → Stroke) (stroke : Option Stroke) → ((rgb : Rgb) → FitsStroke (Some (pen rgb))) → option_map pen paint ≡ stroke → FitsStroke stroke
+pen_fits : (paint : Option Rgb) (pen : Rgb → Stroke) (stroke : Option Stroke) → ((rgb : Rgb) → FitsStroke (Some (pen rgb)))
+    → option_map pen paint ≡ stroke → FitsStroke stroke
 pen_fits None pen stroke h e = subst FitsStroke e tt
 pen_fits (Some rgb) pen stroke h e = subst FitsStroke e (h rgb)
 
@@ -130,7 +142,8 @@ stroke_fits a stroke e =
 
 path_fits : (a : List Attribute) (item : Item) → IsPathElement a item → FitsItem item
 path_fits a item p =
-    let here : FitsItem (Path p.segs p.fill p.stroke) = (first_command_begins p.segs p.segs_are.args p.segs_are.others p.segs_are.meaning, stroke_fits a p.stroke p.stroke_is) in
+    let here : FitsItem (Path p.segs p.fill p.stroke) = (first_command_begins p.segs p.segs_are.args p.segs_are.others p.segs_are.meaning, stroke_fits
+            a p.stroke p.stroke_is) in
     subst FitsItem (sym p.is) here
 
 items_fit : {bytes rest : List ℕ} {items : List Item} → Content bytes items rest → AllByRecursion FitsItem items
@@ -152,7 +165,8 @@ abs-minus (pos zero) = refl
 abs-minus (pos (suc n)) = refl
 abs-minus (negsuc n) = refl
 
-box_fits : (x y w h : ℤ) → FitsBox x → FitsBox y → FitsBox w → FitsBox h → pos 0 ≤ℤ w → pos 0 ≤ℤ h → FitsFrame (record { left = x; bottom = neg_ℤ (y +ℤ h); right = x +ℤ w; top = neg_ℤ y })
+box_fits : (x y w h : ℤ) → FitsBox x → FitsBox y → FitsBox w → FitsBox h → pos 0 ≤ℤ w → pos 0 ≤ℤ h
+    → FitsFrame (record { left = x; bottom = neg_ℤ (y +ℤ h); right = x +ℤ w; top = neg_ℤ y })
 box_fits x y w h a b c d p q =
     let width : (x +ℤ w) -ℤ x ≡ w = omega (arith, ints) in
     let height : neg_ℤ y -ℤ neg_ℤ (y +ℤ h) ≡ h = omega (arith, ints) in
@@ -170,4 +184,5 @@ document_fits bytes d p =
     let s = p.means in
     let n = numbers_fit 4 s.box_text (s.x ∷ s.y ∷ s.w ∷ s.h ∷ []) s.box_is in
     let f = subst FitsFrame (sym s.frame_is) (box_fits s.x s.y s.w s.h n.0 n.1.0 n.1.1.0 n.1.1.1.0 s.w_sign s.h_sign) in
-    record { sides = f.sides; heights = f.heights; left = f.left; top = f.top; width = f.width; height = f.height; family = s.family_is; items = items_fit p.items_are }
+    record { sides = f.sides; heights = f.heights; left = f.left; top = f.top; width = f.width; height = f.height; family = s.family_is;
+        items = items_fit p.items_are }

@@ -15,8 +15,10 @@ use Rattle.tk_item.specs.declared.Stroke.{Stroke}
 use Rattle.tk_svg.specs.Document.{IsPathElement, Content, IsSvg, IsDocument}
 use Rattle.tk_svg.specs.Document as doc
 use Rattle.tk_svg.specs.Paint.{fill_of, stroke_of}
-use Rattle.tk_svg.specs.Scan.{EndsTag, IsName, Attribute, Attributes, none, one, is_name_byte, is_value_byte, after_blanks, after_separator, after_comma, first_numbers_at, numbers_at, numbers_of, scaled_of}
-use Rattle.tk_svg.specs.PathData.{Letter, path_letter, arity, repeated, PathCommand, PathCommands, ends, named, again, begins_number, command_pieces, IsPathData, LineTo, MoveTo}
+use Rattle.tk_svg.specs.Scan.{EndsTag, IsName, Attribute, Attributes, none, one, is_name_byte, is_value_byte, after_blanks, after_separator}
+use Rattle.tk_svg.specs.Scan.{after_comma, first_numbers_at, numbers_at, numbers_of, scaled_of}
+use Rattle.tk_svg.specs.PathData.{Letter, path_letter, arity, repeated, PathCommand, PathCommands, ends, named, again, begins_number, command_pieces}
+use Rattle.tk_svg.specs.PathData.{IsPathData, LineTo, MoveTo}
 
 pub some_same : {A : Type 0} (o : Option A) (x y : A) → o ≡ Some x → o ≡ Some y → x ≡ y
 some_same o x y e f = cc
@@ -44,7 +46,8 @@ same_pairs : {A B : Type 0} {x y : A} {u v : B} → x ≡ y → u ≡ v → ◌�
 same_pairs {A} {B} {x} {y} {u} {v} e f = ap (λ (a : A). (a, u)) e ∙ ap (λ (b : B). (y, b)) f
 
 -- two texts without the byte c, each up to a c, are one
-pub split_same : (p : ℕ → Bool) (c : ℕ) → p c ≡ false → (xs ys r s : List ℕ) → list_all p xs ≡ true → list_all p ys ≡ true → xs ++ c ∷ r ≡ ys ++ c ∷ s → (xs ≡ ys) × (r ≡ s)
+pub split_same : (p : ℕ → Bool) (c : ℕ) → p c ≡ false → (xs ys r s : List ℕ) → list_all p xs ≡ true → list_all p ys ≡ true → xs ++ c ∷ r ≡ ys ++ c ∷ s
+    → (xs ≡ ys) × (r ≡ s)
 split_same p c not_p [] [] r s a b e = (refl, cc)
 split_same p c not_p [] (y ∷ ys) r s a b e =
     let same : c ≡ y = cc in
@@ -65,12 +68,15 @@ letter_no_number : (c : ℕ) (j : Letter) (cs : List ℕ) → path_letter c ≡ 
 letter_no_number c j cs e = grind (arith, nat_tests)
 
 -- the command at the front is one, and so is what is left
-named_same : (j j' : Letter) (c c' : ℕ) (front front' rest rest' : List ℕ) (args args' : List ℤ) (all : List ℕ) → all ≡ c ∷ front → all ≡ c' ∷ front' → path_letter c ≡ Some j → path_letter c' ≡ Some j' → first_numbers_at (arity j) front ≡ Some (args, rest) → first_numbers_at (arity j') front' ≡ Some (args', rest') → (j ≡ j') × (args ≡ args') × (rest ≡ rest')
+named_same : (j j' : Letter) (c c' : ℕ) (front front' rest rest' : List ℕ) (args args' : List ℤ) (all : List ℕ) → all ≡ c ∷ front → all ≡ c' ∷ front'
+    → path_letter c ≡ Some j → path_letter c' ≡ Some j' → first_numbers_at (arity j) front ≡ Some (args, rest)
+    → first_numbers_at (arity j') front' ≡ Some (args', rest') → (j ≡ j') × (args ≡ args') × (rest ≡ rest')
 named_same j j' c c' front front' rest rest' args args' all f f' g g' h h' =
     let cs = head_same all c c' front front' f f' in
     let fs = tail_same all c c' front front' f f' in
     let js : j ≡ j' = some_same (path_letter c) j j' g (ap path_letter cs ∙ g') in
-    let out : first_numbers_at (arity j) front ≡ Some (args', rest') = ap (λ (i : Letter). first_numbers_at (arity i) front) js ∙ ap (λ (w : List ℕ). first_numbers_at (arity j') w) fs ∙ h' in
+    let out : first_numbers_at (arity j) front ≡ Some (args', rest') = ap (λ (i : Letter). first_numbers_at (arity i) front) js
+            ∙ ap (λ (w : List ℕ). first_numbers_at (arity j') w) fs ∙ h' in
     let both = some_same _ (args, rest) (args', rest') h out in
     (js, first_same _ _ both, second_same _ _ both)
 
@@ -78,7 +84,8 @@ named_same j j' c c' front front' rest rest' args args' all f f' g g' h h' =
 end_no_number : (bytes : List ℕ) → after_blanks bytes ≡ [] → begins_number (after_separator bytes) ≡ true → ⊥
 end_no_number bytes e h = false≢true (sym (ap (λ w. begins_number (after_comma w)) e) ∙ h)
 
-named_no_number : (bytes : List ℕ) (c : ℕ) (j : Letter) (front : List ℕ) → after_blanks bytes ≡ c ∷ front → path_letter c ≡ Some j → begins_number (after_separator bytes) ≡ true → ⊥
+named_no_number : (bytes : List ℕ) (c : ℕ) (j : Letter) (front : List ℕ) → after_blanks bytes ≡ c ∷ front → path_letter c ≡ Some j
+    → begins_number (after_separator bytes) ≡ true → ⊥
 named_no_number bytes c j front e l h = false≢true (sym (ap (λ w. begins_number (after_comma w)) e ∙ letter_no_number c j front l) ∙ h)
 
 pub commands_same : {k : Letter} {bytes : List ℕ} {a b : List PathCommand} → PathCommands k bytes a → PathCommands k bytes b → a ≡ b
@@ -86,14 +93,17 @@ commands_same (ends e) (ends f) = refl
 commands_same (ends e) (named f g h i) = absurd cc
 commands_same {bytes = bytes} (ends e) (again f g h i) = absurd (end_no_number bytes e g)
 commands_same (named f g h i) (ends e) = absurd cc
-commands_same {bytes = bytes} (named {j = j} {c = c} {front = front} {rest = rest} {args = args} {more = more} f g h i) (named {j = j'} {c = c'} {front = front'} {rest = rest'} {args = args'} {more = more'} f' g' h' i') =
+commands_same {bytes = bytes} (named {j = j} {c = c} {front = front} {rest = rest} {args = args} {more = more} f g h i)
+    (named {j = j'} {c = c'} {front = front'} {rest = rest'} {args = args'} {more = more'} f' g' h' i') =
     let s = named_same j j' c c' front front' rest rest' args args' (after_blanks bytes) f f' g g' h h' in
-    let other : PathCommands (repeated j) rest more' = subst (λ (l : Letter). PathCommands (repeated l) rest more') (sym s.0) (subst (λ (w : List ℕ). PathCommands (repeated j') w more') (sym s.2) i') in
+    let other : PathCommands (repeated j) rest more' = subst (λ (l : Letter). PathCommands (repeated l) rest more') (sym s.0)
+            (subst (λ (w : List ℕ). PathCommands (repeated j') w more') (sym s.2) i') in
     same_cells (same_pairs s.0 s.1) (commands_same i other)
 commands_same {bytes = bytes} (named {j = j} {c = c} {front = front} f g h i) (again f' g' h' i') = absurd (named_no_number bytes c j front f g g')
 commands_same {bytes = bytes} (again f g h i) (ends e) = absurd (end_no_number bytes e g)
 commands_same {bytes = bytes} (again f g h i) (named {j = j} {c = c} {front = front} f' g' h' i') = absurd (named_no_number bytes c j front f' g' g)
-commands_same {k = k} {bytes = bytes} (again {rest = rest} {args = args} {more = more} f g h i) (again {rest = rest'} {args = args'} {more = more'} f' g' h' i') =
+commands_same {k = k} {bytes = bytes} (again {rest = rest} {args = args} {more = more} f g h i) (again {rest = rest'} {args = args'} {more = more'}
+    f' g' h' i') =
     let both = some_same (numbers_at (arity k) bytes) (args, rest) (args', rest') h h' in
     let r : rest' ≡ rest = sym (second_same _ _ both) in
     same_cells (same_pairs refl (first_same _ _ both)) (commands_same i (subst (λ (w : List ℕ). PathCommands k w more') r i'))
@@ -101,7 +111,8 @@ commands_same {k = k} {bytes = bytes} (again {rest = rest} {args = args} {more =
 pub path_same : (bytes : List ℕ) (a b : List Seg) → IsPathData bytes a → IsPathData bytes b → a ≡ b
 path_same bytes a b p q =
     let fronts = tail_same (after_blanks bytes) 77 77 p.front q.front p.begins q.begins in
-    let both = some_same (first_numbers_at 2 p.front) (p.args, p.rest) (q.args, q.rest) p.first (ap (λ (w : List ℕ). first_numbers_at 2 w) fronts ∙ q.first) in
+    let both = some_same (first_numbers_at 2 p.front) (p.args, p.rest) (q.args, q.rest) p.first (ap (λ (w : List ℕ). first_numbers_at 2 w) fronts
+            ∙ q.first) in
     let rests : q.rest ≡ p.rest = sym (second_same _ _ both) in
     let commands = commands_same p.commands (subst (λ (w : List ℕ). PathCommands LineTo w q.others) rests q.commands) in
     let whole = same_cells (same_pairs {x = MoveTo} refl (first_same _ _ both)) commands in
@@ -120,7 +131,9 @@ tag_no_name all rest (c ∷ cs) more e tag_end f is =
     ]
 
 -- the first attribute is one, and so is what is left
-attribute_same : (all name value more name' value' more' : List ℕ) → all ≡ name ++ 61 ∷ 34 ∷ (value ++ 34 ∷ more) → all ≡ name' ++ 61 ∷ 34 ∷ (value' ++ 34 ∷ more') → IsName name → IsName name' → list_all is_value_byte value ≡ true → list_all is_value_byte value' ≡ true → (name ≡ name') × (value ≡ value') × (more ≡ more')
+attribute_same : (all name value more name' value' more' : List ℕ) → all ≡ name ++ 61 ∷ 34 ∷ (value ++ 34 ∷ more)
+    → all ≡ name' ++ 61 ∷ 34 ∷ (value' ++ 34 ∷ more') → IsName name → IsName name' → list_all is_value_byte value ≡ true
+    → list_all is_value_byte value' ≡ true → (name ≡ name') × (value ≡ value') × (more ≡ more')
 attribute_same all name value more name' value' more' e e' is is' v v' =
     let names = split_same is_name_byte 61 refl name name' (34 ∷ (value ++ 34 ∷ more)) (34 ∷ (value' ++ 34 ∷ more')) is.each is'.each (sym e ∙ e') in
     let values = split_same is_value_byte 34 refl value value' more more' v v' (tail_same _ 34 34 _ _ refl names.1) in
@@ -128,9 +141,12 @@ attribute_same all name value more name' value' more' e e' is is' v v' =
 
 pub attributes_same : {bytes : List ℕ} {a b : List Attribute} {r s : List ℕ} → Attributes bytes a r → Attributes bytes b s → (a ≡ b) × (r ≡ s)
 attributes_same (none e g) (none e' g') = (refl, sym e ∙ e')
-attributes_same {bytes = bytes} (none {rest = rest} e g) (one {name = name} {value = value} {more = more} b f is v w) = absurd (tag_no_name (after_blanks bytes) rest name _ e g f is)
-attributes_same {bytes = bytes} (one {name = name} {value = value} {more = more} b f is v w) (none {rest = rest} e g) = absurd (tag_no_name (after_blanks bytes) rest name _ e g f is)
-attributes_same {bytes = bytes} (one {name = name} {value = value} {more = more} {rest = r} {others = others} b f is v w) (one {name = name'} {value = value'} {more = more'} {rest = s} {others = others'} b' f' is' v' w') =
+attributes_same {bytes = bytes} (none {rest = rest} e g) (one {name = name} {value = value} {more = more} b f is v w) =
+    absurd (tag_no_name (after_blanks bytes) rest name _ e g f is)
+attributes_same {bytes = bytes} (one {name = name} {value = value} {more = more} b f is v w) (none {rest = rest} e g) =
+    absurd (tag_no_name (after_blanks bytes) rest name _ e g f is)
+attributes_same {bytes = bytes} (one {name = name} {value = value} {more = more} {rest = r} {others = others} b f is v w)
+    (one {name = name'} {value = value'} {more = more'} {rest = s} {others = others'} b' f' is' v' w') =
     let here = attribute_same (after_blanks bytes) name value more name' value' more' f f' is is' v v' in
     let then = attributes_same w (subst (λ (m : List ℕ). Attributes m others' s) (sym here.2) w') in
     (same_cells (same_pairs here.0 here.1) then.0, then.1)
@@ -158,7 +174,8 @@ ends_same : (all r s : List ℕ) → all ≡ 60 ∷ 47 ∷ r → all ≡ 60 ∷ 
 ends_same all r s e f = cc
 
 -- the path at the front is one, and so is what is left
-path_step : (all tag tag' more more' : List ℕ) (a a' : List Attribute) (x y : Item) → all ≡ codes "<path" ++ tag → all ≡ codes "<path" ++ tag' → Attributes tag a (47 ∷ 62 ∷ more) → Attributes tag' a' (47 ∷ 62 ∷ more') → IsPathElement a x → IsPathElement a' y → (x ≡ y) × (more' ≡ more)
+path_step : (all tag tag' more more' : List ℕ) (a a' : List Attribute) (x y : Item) → all ≡ codes "<path" ++ tag → all ≡ codes "<path" ++ tag'
+    → Attributes tag a (47 ∷ 62 ∷ more) → Attributes tag' a' (47 ∷ 62 ∷ more') → IsPathElement a x → IsPathElement a' y → (x ≡ y) × (more' ≡ more)
 path_step all tag tag' more more' a a' x y f f' g g' h h' =
     let tags : tag ≡ tag' = append_cancel_left (codes "<path") tag tag' (sym f ∙ f') in
     let both = attributes_same g (subst (λ (t : List ℕ). Attributes t a' (47 ∷ 62 ∷ more')) (sym tags) g') in
@@ -169,16 +186,20 @@ pub content_same : {bytes : List ℕ} {a b : List Item} {r s : List ℕ} → Con
 content_same {bytes = bytes} (doc.ends {rest = r} e) (doc.ends {rest = s} f) = (refl, ends_same (after_blanks bytes) r s e f)
 content_same {bytes = bytes} (doc.ends {rest = r} e) (doc.path {tag = tag} f g h i) = absurd (end_no_path (after_blanks bytes) r tag e f)
 content_same {bytes = bytes} (doc.path {tag = tag} f g h i) (doc.ends {rest = r} e) = absurd (end_no_path (after_blanks bytes) r tag e f)
-content_same {bytes = bytes} (doc.path {tag = tag} {more = more} {attributes = a} {item = x} f g h i) (doc.path {tag = tag'} {more = more'} {rest = s} {attributes = a'} {item = y} {items = items'} f' g' h' i') =
+content_same {bytes = bytes} (doc.path {tag = tag} {more = more} {attributes = a} {item = x} f g h i) (doc.path {tag = tag'} {more = more'} {rest = s}
+    {attributes = a'} {item = y} {items = items'} f' g' h' i') =
     let here = path_step (after_blanks bytes) tag tag' more more' a a' x y f f' g g' h h' in
     let then = content_same i (subst (λ (m : List ℕ). Content m items' s) here.1 i') in
     (same_cells here.0 then.0, then.1)
 
 -- a view box is one frame
-box_same : {x y w h x' y' w' h' : ℤ} → ◌≡◌ {A = List ℤ} (x ∷ y ∷ w ∷ h ∷ []) (x' ∷ y' ∷ w' ∷ h' ∷ []) → ◌≡◌ {A = Frame} (record { left = x; bottom = neg_ℤ (y +ℤ h); right = x +ℤ w; top = neg_ℤ y }) (record { left = x'; bottom = neg_ℤ (y' +ℤ h'); right = x' +ℤ w'; top = neg_ℤ y' })
+box_same : {x y w h x' y' w' h' : ℤ} → ◌≡◌ {A = List ℤ} (x ∷ y ∷ w ∷ h ∷ []) (x' ∷ y' ∷ w' ∷ h' ∷ [])
+    → ◌≡◌ {A = Frame} (record { left = x; bottom = neg_ℤ (y +ℤ h); right = x +ℤ w; top = neg_ℤ y }) (record { left = x'; bottom = neg_ℤ (y' +ℤ h');
+        right = x' +ℤ w'; top = neg_ℤ y' })
 box_same e = cc
 
-svg_same : (attributes : List Attribute) (a b : Drawing) → IsSvg attributes a → IsSvg attributes b → (a.frame ≡ b.frame) × (a.family ≡ b.family) × (a.size ≡ b.size)
+svg_same : (attributes : List Attribute) (a b : Drawing) → IsSvg attributes a → IsSvg attributes b
+    → (a.frame ≡ b.frame) × (a.family ≡ b.family) × (a.size ≡ b.size)
 svg_same attributes a b p q =
     let box_texts = some_same _ p.box_text q.box_text p.has_box q.has_box in
     let boxes = some_same _ (p.x ∷ p.y ∷ p.w ∷ p.h ∷ []) (q.x ∷ q.y ∷ q.w ∷ q.h ∷ []) p.box_is (ap (numbers_of 4) box_texts ∙ q.box_is) in

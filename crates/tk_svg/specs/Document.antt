@@ -1,5 +1,7 @@
 -- What an SVG document stands for.
-use Rattle.std.specs.Prelude.{◌≡◌, ℕ, ◌<◌, Bool, IsTrue, ◌||◌, ◌&&◌, ◌==◌, nat_le, if◌then◌else◌, List, [], ◌∷◌, ◌++◌, length, Option, Some, None, codes, ℤ, pos, neg_ℤ, ◌+ℤ◌, ◌*ℤ◌, ◌≤ℤ◌, int_div, bytes_eq, chars, IsUtf8}
+use Rattle.std.specs.Prelude.{◌≡◌, ℕ, ◌<◌, Bool, IsTrue, ◌||◌, ◌&&◌, ◌==◌, nat_le, if◌then◌else◌, List, [], ◌∷◌, ◌++◌}
+use Rattle.std.specs.Prelude.{length, Option, Some, None, codes, ℤ, pos, neg_ℤ, ◌+ℤ◌, ◌*ℤ◌, ◌≤ℤ◌, int_div, bytes_eq}
+use Rattle.std.specs.Prelude.{chars, IsUtf8}
 use Rattle.std.specs.List.{list_all}
 use Rattle.tk_item.specs.declared.Fill.{Fill}
 use Rattle.tk_item.specs.declared.Stroke.{Stroke}
@@ -10,7 +12,8 @@ use Rattle.tk_item.specs.declared.Frame.{Frame}
 use Rattle.tk_item.specs.declared.Drawing.{Drawing}
 use Rattle.tk_characters.specs.Characters.{space, dash, slash, less, greater}
 use Rattle.tk_characters.specs.Options.{◌and_then◌}
-use Rattle.tk_svg.specs.Scan.{is_xml_char, after_blanks, number_at, numbers_of, scaled_of, Attribute, Attributes, attribute, are_distinct, are_among}
+use Rattle.tk_svg.specs.Scan.{is_xml_char, after_blanks, number_at, numbers_of, scaled_of, Attribute, Attributes}
+use Rattle.tk_svg.specs.Scan.{attribute, are_distinct, are_among}
 use Rattle.tk_svg.specs.PathData.{IsPathData}
 use Rattle.tk_svg.specs.Paint.{paint_names, fill_of, stroke_of}
 
@@ -75,7 +78,8 @@ pub record IsFamily (family : List ℕ) : Type 0 where
 abbrev pub box_frame : ℤ → ℤ → ℤ → ℤ → Frame
 box_frame x y w h = record { left = x; bottom = neg_ℤ (y +ℤ h); right = x +ℤ w; top = neg_ℤ y }
 
--- these are the attributes of `svg` for the drawing's frame and font (SVG 1.1, sections 5.1.2, The `svg` element, and 7.7, The `viewBox` attribute)
+-- these are the attributes of `svg` for the drawing's frame and font (SVG 1.1, sections 5.1.2, The `svg` element, and
+-- 7.7, The `viewBox` attribute)
 pub record IsSvg (attributes : List Attribute) (d : Drawing) : Type 0 where
   pub x : ℤ
   pub y : ℤ

@@ -1,5 +1,7 @@
--- How the attributes of a path say that it is filled and drawn (SVG 1.1, sections 11.2, Specifying paint, to 11.4, Stroke Properties). Each is read where it is given, and else has its initial value.
-use Rattle.std.specs.Prelude.{ℕ, ◌+◌, ◌-◌, ◌*◌, Bool, ◌&&◌, ◌==◌, nat_le, if◌then◌else◌, List, [], ◌∷◌, Option, Some, None, unwrap_or, option_map, codes, ℤ, pos, int_le, bytes_eq}
+-- How the attributes of a path say that it is filled and drawn (SVG 1.1, sections 11.2, Specifying paint, to 11.4,
+-- Stroke Properties). Each is read where it is given, and else has its initial value.
+use Rattle.std.specs.Prelude.{ℕ, ◌+◌, ◌-◌, ◌*◌, Bool, ◌&&◌, ◌==◌, nat_le, if◌then◌else◌, List, [], ◌∷◌, Option, Some}
+use Rattle.std.specs.Prelude.{None, unwrap_or, option_map, codes, ℤ, pos, int_le, bytes_eq}
 use Rattle.std.specs.List.{list_all}
 use Rattle.tk_num.specs.Number.{is_scaled}
 use Rattle.tk_item.specs.declared.Rgb.{Rgb}
@@ -17,7 +19,8 @@ use Rattle.tk_svg.specs.Scan.{Attribute, attribute, lone_number, scaled_of, numb
 
 -- the names of these attributes
 abbrev pub paint_names : List (List ℕ)
-paint_names = codes "fill" ∷ codes "fill-rule" ∷ codes "stroke" ∷ codes "stroke-width" ∷ codes "stroke-linecap" ∷ codes "stroke-linejoin" ∷ codes "stroke-miterlimit" ∷ codes "stroke-dasharray" ∷ codes "stroke-dashoffset" ∷ []
+paint_names = codes "fill" ∷ codes "fill-rule" ∷ codes "stroke" ∷ codes "stroke-width" ∷ codes "stroke-linecap"
+    ∷ codes "stroke-linejoin" ∷ codes "stroke-miterlimit" ∷ codes "stroke-dasharray" ∷ codes "stroke-dashoffset" ∷ []
 
 -- the value of that name, or the initial one where it isn't given
 abbrev pub value_or_initial : List Attribute → List ℕ → List ℕ → List ℕ
@@ -103,4 +106,5 @@ stroke_of attributes =
     miter_of (value_or_initial attributes (codes "stroke-miterlimit") (codes "4")) and_then λ miter.
     dashes_of (value_or_initial attributes (codes "stroke-dasharray") (codes "none")) and_then λ dash.
     scaled_of (value_or_initial attributes (codes "stroke-dashoffset") (codes "0")) and_then λ phase.
-    Some (option_map (λ rgb. record { rgb = rgb; width = width; cap = cap; join = join; miter = miter; dash = dash; phase = phase }) paint)
+    Some (option_map (λ rgb. record { rgb = rgb; width = width; cap = cap; join = join; miter = miter; dash = dash;
+        phase = phase }) paint)

@@ -1,6 +1,8 @@
--- What the data of a path stand for (SVG 1.1, section 8.3, Path data), with the letters M, L, C and Z. The letters H and V, the small letters, and the other curves stand for nothing.
--- `M0 0 1 0` is a move to (0,0) and a line to (1,0); `M.5.5` is a move to (.5,-.5), since y points upward in a drawing.
-use Rattle.std.specs.Prelude.{◌≡◌, ℕ, suc, Bool, false, IsTrue, ◌&&◌, ◌||◌, ◌==◌, if◌then◌else◌, List, [], ◌∷◌, Option, Some, None, ℤ, neg_ℤ}
+-- What the data of a path stand for (SVG 1.1, section 8.3, Path data), with the letters M, L, C and Z. The letters H
+-- and V, the small letters, and the other curves stand for nothing. `M0 0 1 0` is a move to (0,0) and a line to (1,0);
+-- `M.5.5` is a move to (.5,-.5), since y points upward in a drawing.
+use Rattle.std.specs.Prelude.{◌≡◌, ℕ, suc, Bool, false, IsTrue, ◌&&◌, ◌||◌, ◌==◌, if◌then◌else◌, List, [], ◌∷◌, Option}
+use Rattle.std.specs.Prelude.{Some, None, ℤ, neg_ℤ}
 use Rattle.std.specs.Char.{is_ascii_digit}
 use Rattle.tk_num.specs.Number.{is_point, is_scaled}
 use Rattle.tk_item.specs.declared.Point.{Point}
@@ -63,7 +65,8 @@ abbrev pub begins_number : List ℕ → Bool
 begins_number [] = false
 begins_number (c ∷ cs) = c == plus || (c == dash || (is_point c || is_ascii_digit c))
 
--- the commands of the bytes, where further numbers are read by the letter k: only blanks are left, or a letter with its numbers, or further numbers
+-- the commands of the bytes, where further numbers are read by the letter k: only blanks are left, or a letter with its
+-- numbers, or further numbers
 pub data PathCommands : Letter → List ℕ → List PathCommand → Type 0 where
   ends : {k : Letter} {bytes : List ℕ}
       → after_blanks bytes ≡ []
@@ -81,7 +84,8 @@ pub data PathCommands : Letter → List ℕ → List PathCommand → Type 0 wher
       → PathCommands k rest more
       → PathCommands k bytes ((k, args) ∷ more)
 
--- ---- what commands stand for (SVG 1.1, sections 8.3.2 to 8.3.4 and 8.3.6: moveto, closepath, lineto, cubic Bézier curve commands)
+-- ---- what commands stand for (SVG 1.1, sections 8.3.2 to 8.3.4 and 8.3.6: moveto, closepath, lineto, cubic Bézier
+-- curve commands)
 
 -- a point of scaled numbers, with y turned upward
 abbrev pub scaled_point : ℤ → ℤ → Option Point

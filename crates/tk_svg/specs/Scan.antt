@@ -1,11 +1,15 @@
--- Blanks, numbers and attributes of an SVG text. A definition named `.._at` reads at the front and gives what stands behind.
-use Rattle.std.specs.Prelude.{◌≡◌, ℕ, zero, suc, ◌+◌, ◌*◌, ◌<◌, ◌⊎◌, Bool, true, false, IsTrue, ◌&&◌, ◌||◌, not, ◌==◌, nat_lt, nat_le, if◌then◌else◌, List, [], ◌∷◌, ◌++◌, length, Option, Some, None, is_some, ℤ, pos, neg_ℤ, bytes_eq}
+-- Blanks, numbers and attributes of an SVG text. A definition named `.._at` reads at the front and gives what stands
+-- behind.
+use Rattle.std.specs.Prelude.{◌≡◌, ℕ, zero, suc, ◌+◌, ◌*◌, ◌<◌, ◌⊎◌, Bool, true, false, IsTrue, ◌&&◌, ◌||◌, not, ◌==◌}
+use Rattle.std.specs.Prelude.{nat_lt, nat_le, if◌then◌else◌, List, [], ◌∷◌, ◌++◌, length, Option, Some, None, is_some}
+use Rattle.std.specs.Prelude.{ℤ, pos, neg_ℤ, bytes_eq}
 use Rattle.std.specs.List.{list_all, list_any}
 use Rattle.std.specs.Char.{is_ascii_digit}
 use Rattle.std.specs.Str.Parse.{digits_value}
 use Rattle.tk_num.specs.Number.{is_point, is_scaled, fraction_of}
 use Rattle.tk_characters.specs.Options.{◌and_then◌}
-use Rattle.tk_characters.specs.Characters.{tab, line_feed, carriage_return, space, quote, ampersand, plus, comma, dash, slash, colon, less, equals, greater}
+use Rattle.tk_characters.specs.Characters.{tab, line_feed, carriage_return, space, quote, ampersand, plus, comma, dash}
+use Rattle.tk_characters.specs.Characters.{slash, colon, less, equals, greater}
 
 -- ---- characters
 
@@ -29,11 +33,13 @@ abbrev pub after_comma : List ℕ → List ℕ
 after_comma [] = []
 after_comma (c ∷ cs) = if c == comma then after_blanks cs else c ∷ cs
 
--- what stands behind blanks, of which one place may be a comma (SVG 1.1, section 8.3.9, The grammar for path data, comma-wsp?)
+-- what stands behind blanks, of which one place may be a comma (SVG 1.1, section 8.3.9, The grammar for path data,
+-- comma-wsp?)
 abbrev pub after_separator : List ℕ → List ℕ
 after_separator bytes = after_comma (after_blanks bytes)
 
--- ---- numbers, each read as long as it can be (SVG 1.1, section 8.3.9, The grammar for path data, number, without exponents)
+-- ---- numbers, each read as long as it can be (SVG 1.1, section 8.3.9, The grammar for path data, number, without
+-- exponents)
 
 -- the digits at the front: `28` of `28.45274 0`
 abbrev pub digits_of : List ℕ → List ℕ
@@ -124,7 +130,8 @@ BeginsBlank (c ∷ cs) = IsTrue (is_xml_blank c)
 abbrev pub EndsTag : List ℕ → Type 0
 EndsTag rest = (after : List ℕ) × ((rest ≡ greater ∷ after) ⊎ (rest ≡ slash ∷ after))
 
--- the attributes up to the end of a tag: each is one or more blanks, a name, `="`, a value and `"` (XML 1.0, section 3.1, STag)
+-- the attributes up to the end of a tag: each is one or more blanks, a name, `="`, a value and `"` (XML 1.0, section
+-- 3.1, STag)
 pub data Attributes : List ℕ → List Attribute → List ℕ → Type 0 where
   none : {bytes rest : List ℕ}
       → after_blanks bytes ≡ rest
@@ -167,7 +174,8 @@ lone_number value = number_at value and_then λ x. if is_empty x.1 then Some x.0
 abbrev pub scaled_of : List ℕ → Option ℤ
 scaled_of value = lone_number value and_then λ x. if is_scaled x then Some x else None
 
--- what stands behind a separator that is there: blanks, or one comma with blanks around it (SVG 1.1, section 8.3.9, The grammar for path data, comma-wsp)
+-- what stands behind a separator that is there: blanks, or one comma with blanks around it (SVG 1.1, section 8.3.9, The
+-- grammar for path data, comma-wsp)
 abbrev pub behind_separator : List ℕ → Option (List ℕ)
 behind_separator [] = None
 behind_separator (c ∷ cs) = if is_xml_blank c || c == comma then Some (after_separator (c ∷ cs)) else None

@@ -1,5 +1,6 @@
 -- The document that is written stands for the drawing.
-use Rattle.std.proofs.Common.{◌≡◌, ℕ, ◌*◌, ◌/◌, ◌<◌, Bool, ◌&&◌, true, false, eqb, List, [], ◌∷◌, ◌++◌, length, Option, Some, None, refl, sym, ap, ◌∙◌, arith, append_assoc, lit<, inl, inr, suc, ◌||◌}
+use Rattle.std.proofs.Common.{◌≡◌, ℕ, ◌*◌, ◌/◌, ◌<◌, Bool, ◌&&◌, true, false, eqb, List, [], ◌∷◌, ◌++◌, length, Option, Some, None, refl, sym, ap}
+use Rattle.std.proofs.Common.{◌∙◌, arith, append_assoc, lit<, inl, inr, suc, ◌||◌}
 use Rattle.std.specs.Prelude.{ℤ, pos, negsuc, neg_ℤ, ◌+ℤ◌, ◌*ℤ◌, int_div, unsigned_abs, codes, nat_le, flat_map, IsAscii, bytes_eq}
 use Rattle.std.specs.List.{list_all, list_any, AllByRecursion}
 use Rattle.std.proofs.lemmas.Bool.Decides.{nat_tests}
@@ -16,14 +17,16 @@ use Rattle.tk_item.specs.declared.Frame.{Frame}
 use Rattle.tk_item.specs.declared.Item.{Item}
 use Rattle.tk_item.specs.declared.Item.TheVariants.{Path, Label}
 use Rattle.tk_item.specs.declared.Drawing.{Drawing}
-use Rattle.tk_svg.specs.Scan.{is_xml_char, is_xml_blank, is_name_byte, is_value_byte, after_blanks, Attribute, attribute, Attributes, none, one, EndsTag, IsName, are_among, are_distinct}
+use Rattle.tk_svg.specs.Scan.{is_xml_char, is_xml_blank, is_name_byte, is_value_byte, after_blanks, Attribute, attribute, Attributes, none, one}
+use Rattle.tk_svg.specs.Scan.{EndsTag, IsName, are_among, are_distinct}
 use Rattle.tk_svg.specs.Paint.{paint_names}
 use Rattle.tk_svg.specs.Document.{IsPathElement, Content, IsSvg, IsDocument, IsFamily, is_family_char, size_of, points_value, declaration}
 use Rattle.tk_svg.specs.Document as doc
 use Rattle.tk_svg.specs.Fitting.{Fits, FitsItem, IsPath, FitsBox}
 use Rattle.tk_svg.proofs.Numbers.{number_back}
 use Rattle.tk_svg.proofs.Unique.{and_true}
-use Rattle.tk_svgwrite.specs.Plain.{attribute_text, attributes_text, Setting, differing, data_text, fill_settings, stroke_settings, path_attributes, item_text, frame_width, frame_height, points_text, box_text, svg_attributes, svg_text, document_text}
+use Rattle.tk_svgwrite.specs.Plain.{attribute_text, attributes_text, Setting, differing, data_text, fill_settings, stroke_settings, path_attributes}
+use Rattle.tk_svgwrite.specs.Plain.{item_text, frame_width, frame_height, points_text, box_text, svg_attributes, svg_text, document_text}
 use Rattle.tk_svgwrite.specs.Ranges.{FillInRange, StrokeInRange, ItemInRange}
 use Rattle.tk_svgwrite.proofs.Numbers.{is_plain, all_both, text_plain, numbers_plain, list_back}
 use Rattle.tk_svgwrite.proofs.PathData.{unsigned_abs-neg, neg-neg, scaled_fits, data_means, data_plain}
@@ -48,14 +51,17 @@ name_starts : (name rest : List ℕ) → IsName name → after_blanks (name ++ r
 name_starts [] rest is = absurd (omega (arith, is.some))
 name_starts (c ∷ cs) rest is = rw (name_no_blank c (and_true _ _ is.each).0) refl
 
-parts_of : (name value more rest : List ℕ) → ((((name ++ codes "=\"") ++ value) ++ codes "\"") ++ more) ++ rest ≡ name ++ 61 ∷ 34 ∷ (value ++ 34 ∷ (more ++ rest))
+parts_of : (name value more rest : List ℕ)
+    → ((((name ++ codes "=\"") ++ value) ++ codes "\"") ++ more) ++ rest ≡ name ++ 61 ∷ 34 ∷ (value ++ 34 ∷ (more ++ rest))
 parts_of name value more rest = simp append_assoc
 
-attributes_back : (attributes : List Attribute) (rest : List ℕ) → AllByRecursion IsWritten attributes → after_blanks rest ≡ rest → EndsTag rest → Attributes (attributes_text attributes ++ rest) attributes rest
+attributes_back : (attributes : List Attribute) (rest : List ℕ) → AllByRecursion IsWritten attributes → after_blanks rest ≡ rest → EndsTag rest
+    → Attributes (attributes_text attributes ++ rest) attributes rest
 attributes_back [] rest h b e = none b e
 attributes_back (a ∷ others) rest h b e =
     let parts = parts_of a.0 a.1 (attributes_text others) rest in
-    one {name = a.0} {value = a.1} {more = attributes_text others ++ rest} refl (ap after_blanks parts ∙ name_starts a.0 _ h.0.name) h.0.name (weaker_test is_plain is_value_byte plain_is_value a.1 h.0.value) (attributes_back others rest h.1 b e)
+    one {name = a.0} {value = a.1} {more = attributes_text others ++ rest} refl (ap after_blanks parts ∙ name_starts a.0 _ h.0.name) h.0.name
+        (weaker_test is_plain is_value_byte plain_is_value a.1 h.0.value) (attributes_back others rest h.1 b e)
 
 -- a line feed, or a printable ASCII character
 abbrev pub is_line : ℕ → Bool
@@ -73,12 +79,14 @@ attributes_line (a ∷ others) h =
     let name = weaker_test is_name_byte is_line name_is_line a.0 h.0.name.each in
     let value = weaker_test is_plain is_line plain_is_line a.1 h.0.value in
     all_both is_line (attribute_text a) (attributes_text others)
-    (all_both is_line (codes " " ++ a.0 ++ codes "=\"" ++ a.1) (codes "\"") (all_both is_line (codes " " ++ a.0 ++ codes "=\"") a.1 (all_both is_line (codes " " ++ a.0) (codes "=\"") name refl) value) refl)
+    (all_both is_line (codes " " ++ a.0 ++ codes "=\"" ++ a.1) (codes "\"") (all_both is_line (codes " " ++ a.0 ++ codes "=\"") a.1
+        (all_both is_line (codes " " ++ a.0) (codes "=\"") name refl) value) refl)
     (attributes_line others h.1)
 
 -- ---- a path
 
-attribute_is_written : (name value : List ℕ) → 0 < length name → list_all is_name_byte name ≡ true → list_all is_plain value ≡ true → IsWritten (name, value)
+attribute_is_written : (name value : List ℕ) → 0 < length name → list_all is_name_byte name ≡ true → list_all is_plain value ≡ true
+    → IsWritten (name, value)
 attribute_is_written name value some each plain = record { name = record { some = some; each = each }; value = plain }
 
 abbrev SettingsWritten : List Setting → Type 0
@@ -90,7 +98,8 @@ both_written (s ∷ a) b h i = (h.0, both_written a b h.1 i)
 
 fill_written : (fill : Option Fill) → FillInRange fill → SettingsWritten (fill_settings fill)
 fill_written None h = (attribute_is_written _ _ (lit< tt) refl refl, tt)
-fill_written (Some f) h = (attribute_is_written _ _ (lit< tt) refl (rgb_plain f.rgb h), (attribute_is_written _ _ (lit< tt) refl (rule_plain f.rule), tt))
+fill_written (Some f) h =
+    (attribute_is_written _ _ (lit< tt) refl (rgb_plain f.rgb h), (attribute_is_written _ _ (lit< tt) refl (rule_plain f.rule), tt))
 
 stroke_written : (stroke : Option Stroke) → StrokeInRange stroke → SettingsWritten (stroke_settings stroke)
 stroke_written None h = tt
@@ -114,9 +123,11 @@ stroke_written (Some s) h = (
   ),
 )
 
-path_written : (segs : List Seg) (fill : Option Fill) (stroke : Option Stroke) → ItemInRange (Path segs fill stroke) → AllByRecursion IsWritten (path_attributes segs fill stroke)
+path_written : (segs : List Seg) (fill : Option Fill) (stroke : Option Stroke) → ItemInRange (Path segs fill stroke)
+    → AllByRecursion IsWritten (path_attributes segs fill stroke)
 path_written segs fill stroke h =
-    (attribute_is_written _ _ (lit< tt) refl (data_plain segs h.0), written_back (fill_settings fill ++ stroke_settings stroke) (both_written (fill_settings fill) (stroke_settings stroke) (fill_written fill h.1) (stroke_written stroke h.2)))
+    (attribute_is_written _ _ (lit< tt) refl (data_plain segs h.0), written_back (fill_settings fill ++ stroke_settings stroke)
+        (both_written (fill_settings fill) (stroke_settings stroke) (fill_written fill h.1) (stroke_written stroke h.2)))
 
 -- which names the settings have
 record Named (settings : List Setting) : Type 0 where
@@ -124,8 +135,10 @@ record Named (settings : List Setting) : Type 0 where
   apart : are_distinct (differing settings) ≡ true
   among : are_among (codes "d" ∷ paint_names) (differing settings) ≡ true
 
-named_by : (settings : List Setting) → has_name (codes "d") settings ≡ false → are_apart settings ≡ true → list_all (λ s. list_any (bytes_eq s.name) (codes "d" ∷ paint_names)) settings ≡ true → Named settings
-named_by settings d a n = record { no_data = absent_name_has_no_value (codes "d") settings d; apart = distinct_back settings a; among = among_back (codes "d" ∷ paint_names) settings n }
+named_by : (settings : List Setting) → has_name (codes "d") settings ≡ false → are_apart settings ≡ true
+    → list_all (λ s. list_any (bytes_eq s.name) (codes "d" ∷ paint_names)) settings ≡ true → Named settings
+named_by settings d a n = record { no_data = absent_name_has_no_value (codes "d") settings d; apart = distinct_back settings a;
+    among = among_back (codes "d" ∷ paint_names) settings n }
 
 settings_named : (fill : Option Fill) (stroke : Option Stroke) → Named (fill_settings fill ++ stroke_settings stroke)
 settings_named None None = named_by _ refl refl refl
@@ -133,7 +146,8 @@ settings_named None (Some s) = named_by _ refl refl refl
 settings_named (Some f) None = named_by _ refl refl refl
 settings_named (Some f) (Some s) = named_by _ refl refl refl
 
-path_is : (segs : List Seg) (fill : Option Fill) (stroke : Option Stroke) → ItemInRange (Path segs fill stroke) → FitsItem (Path segs fill stroke) → IsPathElement (path_attributes segs fill stroke) (Path segs fill stroke)
+path_is : (segs : List Seg) (fill : Option Fill) (stroke : Option Stroke) → ItemInRange (Path segs fill stroke) → FitsItem (Path segs fill stroke)
+    → IsPathElement (path_attributes segs fill stroke) (Path segs fill stroke)
 path_is segs fill stroke h f =
     let named = settings_named fill stroke in
     record {
@@ -155,13 +169,15 @@ path_is segs fill stroke h f =
 tag_parts : (attributes items close : List ℕ) → ((attributes ++ codes "/>\n") ++ items) ++ close ≡ attributes ++ 47 ∷ 62 ∷ 10 ∷ (items ++ close)
 tag_parts attributes items close = simp append_assoc
 
-pub items_mean : (items : List Item) → AllByRecursion FitsItem items → AllByRecursion ItemInRange items → AllByRecursion IsPath items → Content (10 ∷ (flat_map item_text items ++ codes "</svg>\n")) items (codes "svg>\n")
+pub items_mean : (items : List Item) → AllByRecursion FitsItem items → AllByRecursion ItemInRange items → AllByRecursion IsPath items
+    → Content (10 ∷ (flat_map item_text items ++ codes "</svg>\n")) items (codes "svg>\n")
 unfolding item_text
 items_mean [] f h p = doc.ends refl
 items_mean (Path segs fill stroke ∷ items) f h p =
     let attributes = path_attributes segs fill stroke in
     let parts = tag_parts (attributes_text attributes) (flat_map item_text items) (codes "</svg>\n") in
-    doc.path {tag = attributes_text attributes ++ 47 ∷ 62 ∷ 10 ∷ (flat_map item_text items ++ codes "</svg>\n")} (ap (λ (w : List ℕ). codes "<path" ++ w) parts)
+    doc.path {tag = attributes_text attributes ++ 47 ∷ 62 ∷ 10 ∷ (flat_map item_text items ++ codes "</svg>\n")}
+        (ap (λ (w : List ℕ). codes "<path" ++ w) parts)
     (attributes_back attributes _ (path_written segs fill stroke h.0) refl (_, inr refl))
     (path_is segs fill stroke h.0 f.0) (items_mean items f.1 h.1 p.1)
 items_mean (Label label ∷ items) f h p = absurd p.0
@@ -171,7 +187,9 @@ unfolding item_text
 items_line [] h = refl
 items_line (Path segs fill stroke ∷ items) h =
     let attributes = path_attributes segs fill stroke in
-    all_both is_line (codes "<path" ++ attributes_text attributes ++ codes "/>\n") (flat_map item_text items) (all_both is_line (codes "<path" ++ attributes_text attributes) (codes "/>\n") (attributes_line attributes (path_written segs fill stroke h.0)) refl) (items_line items h.1)
+    all_both is_line (codes "<path" ++ attributes_text attributes ++ codes "/>\n") (flat_map item_text items)
+        (all_both is_line (codes "<path" ++ attributes_text attributes) (codes "/>\n") (attributes_line attributes (path_written segs fill stroke
+        h.0)) refl) (items_line items h.1)
 items_line (Label label ∷ items) h = items_line items h.1
 
 -- ---- the outermost element
@@ -208,7 +226,8 @@ svg_written d f s = (
       (
         attribute_is_written _ _ (lit< tt) refl (points_plain (frame_height d.frame) f.height),
         (
-          attribute_is_written _ _ (lit< tt) refl (numbers_plain (d.frame.left ∷ neg_ℤ d.frame.top ∷ frame_width d.frame ∷ frame_height d.frame ∷ []) (box_fits d f)),
+          attribute_is_written _ _ (lit< tt) refl (numbers_plain (d.frame.left ∷ neg_ℤ d.frame.top ∷ frame_width d.frame ∷ frame_height d.frame ∷ [])
+              (box_fits d f)),
           (
             attribute_is_written _ _ (lit< tt) refl (weaker_test is_family_char is_plain family_plain d.family f.family.each),
             (attribute_is_written _ _ (lit< tt) refl (text_plain d.size (scaled_fits d.size s)), tt),
@@ -219,7 +238,9 @@ svg_written d f s = (
   ),
 )
 
-frame_back : (frame : Frame) → frame ≡ record { left = frame.left; bottom = neg_ℤ (neg_ℤ frame.top +ℤ frame_height frame); right = frame.left +ℤ frame_width frame; top = neg_ℤ (neg_ℤ frame.top) }
+frame_back : (frame : Frame)
+    → frame ≡ record { left = frame.left; bottom = neg_ℤ (neg_ℤ frame.top +ℤ frame_height frame); right = frame.left +ℤ frame_width frame;
+        top = neg_ℤ (neg_ℤ frame.top) }
 frame_back frame =
     let bottom : frame.bottom ≡ neg_ℤ (neg_ℤ frame.top +ℤ frame_height frame) = omega (arith, ints) in
     let right : frame.right ≡ frame.left +ℤ frame_width frame = omega (arith, ints) in
@@ -263,7 +284,8 @@ document_line d f s h =
     all_both is_line (declaration ++ codes "\n" ++ svg_text d ++ flat_map item_text d.items) (codes "</svg>\n")
     (all_both is_line (declaration ++ codes "\n" ++ svg_text d) (flat_map item_text d.items)
     (all_both is_line (declaration ++ codes "\n") (svg_text d) refl
-    (all_both is_line (codes "<svg" ++ attributes_text (svg_attributes d)) (codes ">\n") (attributes_line (svg_attributes d) (svg_written d f s)) refl))
+    (all_both is_line (codes "<svg" ++ attributes_text (svg_attributes d)) (codes ">\n") (attributes_line (svg_attributes d) (svg_written d f s))
+        refl))
     (items_line d.items h)) refl
 
 line_is_ascii : (c : ℕ) → is_line c ≡ true → c < 128
@@ -275,10 +297,13 @@ line_is_xml c h = grind (arith, nat_tests)
 lines_are_ascii : (bytes : List ℕ) → list_all is_line bytes ≡ true → IsAscii bytes
 lines_are_ascii bytes h = IsAscii-from_all bytes (λ k e lt. line_is_ascii _ (AllPass-from_list_all is_line bytes h k e lt))
 
-document_parts : (attributes items : List ℕ) → (((declaration ++ codes "\n") ++ (codes "<svg" ++ attributes ++ codes ">\n")) ++ items) ++ codes "</svg>\n" ≡ declaration ++ 10 ∷ 60 ∷ 115 ∷ 118 ∷ 103 ∷ (attributes ++ 62 ∷ 10 ∷ (items ++ codes "</svg>\n"))
+document_parts : (attributes items : List ℕ)
+    → (((declaration ++ codes "\n") ++ (codes "<svg" ++ attributes ++ codes ">\n")) ++ items) ++ codes "</svg>\n" ≡ declaration ++ 10 ∷ 60 ∷ 115 ∷ 118
+        ∷ 103 ∷ (attributes ++ 62 ∷ 10 ∷ (items ++ codes "</svg>\n"))
 document_parts attributes items = simp append_assoc
 
-pub document_means : (d : Drawing) → Fits d → IsScaled d.size → AllByRecursion ItemInRange d.items → AllByRecursion IsPath d.items → IsDocument (document_text d) d
+pub document_means : (d : Drawing) → Fits d → IsScaled d.size → AllByRecursion ItemInRange d.items → AllByRecursion IsPath d.items
+    → IsDocument (document_text d) d
 unfolding document_text svg_text
 document_means d f s h p =
     let lines = document_line d f s h in
@@ -291,7 +316,8 @@ document_means d f s h p =
       last = codes "\n";
       attributes = svg_attributes d;
       text = IsUtf8-from_ascii (document_text d) ascii;
-      allowed = ap (list_all is_xml_char) (chars-IsAscii (document_text d) ascii) ∙ weaker_test is_line is_xml_char line_is_xml (document_text d) lines;
+      allowed =
+          ap (list_all is_xml_char) (chars-IsAscii (document_text d) ascii) ∙ weaker_test is_line is_xml_char line_is_xml (document_text d) lines;
       declared = document_parts (attributes_text (svg_attributes d)) (flat_map item_text d.items);
       opens = refl;
       has = attributes_back (svg_attributes d) _ (svg_written d f s) refl (_, inl refl);

@@ -1,5 +1,6 @@
 -- What is written of a fill and of a stroke stands for them.
-use Rattle.std.proofs.Common.{◌≡◌, ℕ, ◌+◌, ◌*◌, ◌/◌, ◌%◌, ◌<◌, ◌≤◌, Bool, true, false, List, [], ◌∷◌, ◌++◌, length, Option, Some, None, refl, sym, ap, ◌∙◌, arith}
+use Rattle.std.proofs.Common.{◌≡◌, ℕ, ◌+◌, ◌*◌, ◌/◌, ◌%◌, ◌<◌, ◌≤◌, Bool, true, false, List, [], ◌∷◌, ◌++◌, length, Option, Some, None, refl, sym, ap}
+use Rattle.std.proofs.Common.{◌∙◌, arith}
 use Rattle.std.specs.Prelude.{ℤ, pos, codes, int_le, option_map, bytes_eq}
 use Rattle.std.specs.List.{list_all, AllByRecursion}
 use Rattle.std.proofs.lemmas.Bool.{le-leb}
@@ -19,10 +20,12 @@ use Rattle.tk_item.specs.declared.Join.TheVariants as join
 use Rattle.tk_item.specs.declared.Fill.{Fill}
 use Rattle.tk_item.specs.declared.Stroke.{Stroke}
 use Rattle.tk_svg.specs.Scan.{Attribute, number_at, unsigned_at, unsigned_from, numbers_of, scaled_of}
-use Rattle.tk_svg.specs.Paint.{value_or_initial, hex_digit, hex_byte, rgb_of, paint_of, rule_of, cap_of, join_of, is_length, length_value, miter_of, dashes_of, fill_of, stroke_of}
+use Rattle.tk_svg.specs.Paint.{value_or_initial, hex_digit, hex_byte, rgb_of, paint_of, rule_of, cap_of, join_of, is_length, length_value, miter_of}
+use Rattle.tk_svg.specs.Paint.{dashes_of, fill_of, stroke_of}
 use Rattle.tk_svg.specs.Fitting.{FitsBox, FitsStroke}
 use Rattle.tk_svg.proofs.Unique.{and_true}
-use Rattle.tk_svgwrite.specs.Plain.{numbers_text, hex_glyph, hex_text, rgb_text, rule_text, cap_text, join_text, dash_text, fill_settings, stroke_settings, differing}
+use Rattle.tk_svgwrite.specs.Plain.{numbers_text, hex_glyph, hex_text, rgb_text, rule_text, cap_text, join_text, dash_text, fill_settings}
+use Rattle.tk_svgwrite.specs.Plain.{stroke_settings, differing}
 use Rattle.tk_svgwrite.specs.Ranges.{RgbInRange, FillInRange, StrokeInRange}
 use Rattle.tk_svgwrite.proofs.Numbers.{is_plain, numbers_plain, number_of_back, list_back}
 use Rattle.tk_svgwrite.proofs.PathData.{scaled_fits}
@@ -55,7 +58,8 @@ hex_plain n lt = rw (glyph_plain (n / 16) (omega arith), glyph_plain (n % 16) (o
 
 pub rgb_plain : (c : Rgb) → RgbInRange c → list_all is_plain (rgb_text c) ≡ true
 rgb_plain c h =
-    rw (glyph_plain (c.r / 16) (omega (arith, h.r)), glyph_plain (c.r % 16) (omega arith), glyph_plain (c.g / 16) (omega (arith, h.g)), glyph_plain (c.g % 16) (omega arith), glyph_plain (c.b / 16) (omega (arith, h.b)), glyph_plain (c.b % 16) (omega arith)) refl
+    rw (glyph_plain (c.r / 16) (omega (arith, h.r)), glyph_plain (c.r % 16) (omega arith), glyph_plain (c.g / 16) (omega (arith, h.g)), glyph_plain
+        (c.g % 16) (omega arith), glyph_plain (c.b / 16) (omega (arith, h.b)), glyph_plain (c.b % 16) (omega arith)) refl
 
 -- ---- words
 
@@ -127,7 +131,8 @@ unfolding numbers_of number_at unsigned_at unsigned_from
 none_is_no_list = refl
 
 -- numbers are not the word for none
-pub dash_no_none : (x : ℤ) (xs : List ℤ) → AllByRecursion FitsBox (x ∷ xs) → length (x ∷ xs) ≤ 16 → (b : Bool) → bytes_eq (numbers_text (x ∷ xs)) (codes "none") ≡ b → b ≡ false
+pub dash_no_none : (x : ℤ) (xs : List ℤ) → AllByRecursion FitsBox (x ∷ xs) → length (x ∷ xs) ≤ 16 → (b : Bool)
+    → bytes_eq (numbers_text (x ∷ xs)) (codes "none") ≡ b → b ≡ false
 dash_no_none x xs h few true e =
     let same : numbers_text (x ∷ xs) ≡ codes "none" = (bytes_eq-Decides (numbers_text (x ∷ xs)) (codes "none")).0 e in
     let back = list_back 16 x xs (omega arith) h in
@@ -149,7 +154,9 @@ dash_plain (x ∷ xs) h = numbers_plain (x ∷ xs) (all_fit (x ∷ xs) h)
 
 -- ---- a fill
 
-fill_from : (a : List Attribute) (paint rule : List ℕ) (p : Option Rgb) (r : Rule) → value_or_initial a (codes "fill") (codes "#000000") ≡ paint → value_or_initial a (codes "fill-rule") (codes "nonzero") ≡ rule → paint_of paint ≡ Some p → rule_of rule ≡ Some r → fill_of a ≡ Some (option_map (λ rgb. record { rgb = rgb; rule = r }) p)
+fill_from : (a : List Attribute) (paint rule : List ℕ) (p : Option Rgb) (r : Rule) → value_or_initial a (codes "fill") (codes "#000000") ≡ paint
+    → value_or_initial a (codes "fill-rule") (codes "nonzero") ≡ rule → paint_of paint ≡ Some p → rule_of rule ≡ Some r
+    → fill_of a ≡ Some (option_map (λ rgb. record { rgb = rgb; rule = r }) p)
 unfolding fill_of
 fill_from a paint rule p r e f g h = rw (e, f, g, h) refl
 
@@ -157,11 +164,23 @@ none_paint : paint_of (codes "none") ≡ Some None
 unfolding paint_of
 none_paint = refl
 
-pub fill_means : (data_text : List ℕ) (fill : Option Fill) (stroke : Option Stroke) → FillInRange fill → fill_of ((codes "d", data_text) ∷ differing (fill_settings fill ++ stroke_settings stroke)) ≡ Some fill
-fill_means data_text None None h = fill_from _ (codes "none") (codes "nonzero") None NonZero (given_back (codes "fill") (codes "#000000") (fill_settings None ++ stroke_settings None) refl) (given_back (codes "fill-rule") (codes "nonzero") (fill_settings None ++ stroke_settings None) refl) none_paint (rule_back NonZero)
-fill_means data_text None (Some s) h = fill_from _ (codes "none") (codes "nonzero") None NonZero (given_back (codes "fill") (codes "#000000") (fill_settings None ++ stroke_settings (Some s)) refl) (given_back (codes "fill-rule") (codes "nonzero") (fill_settings None ++ stroke_settings (Some s)) refl) none_paint (rule_back NonZero)
-fill_means data_text (Some f) None h = fill_from _ (rgb_text f.rgb) (rule_text f.rule) (Some f.rgb) f.rule (given_back (codes "fill") (codes "#000000") (fill_settings (Some f) ++ stroke_settings None) refl) (given_back (codes "fill-rule") (codes "nonzero") (fill_settings (Some f) ++ stroke_settings None) refl) (paint_back f.rgb h) (rule_back f.rule)
-fill_means data_text (Some f) (Some s) h = fill_from _ (rgb_text f.rgb) (rule_text f.rule) (Some f.rgb) f.rule (given_back (codes "fill") (codes "#000000") (fill_settings (Some f) ++ stroke_settings (Some s)) refl) (given_back (codes "fill-rule") (codes "nonzero") (fill_settings (Some f) ++ stroke_settings (Some s)) refl) (paint_back f.rgb h) (rule_back f.rule)
+pub fill_means : (data_text : List ℕ) (fill : Option Fill) (stroke : Option Stroke) → FillInRange fill
+    → fill_of ((codes "d", data_text) ∷ differing (fill_settings fill ++ stroke_settings stroke)) ≡ Some fill
+fill_means data_text None None h = fill_from _ (codes "none") (codes "nonzero") None NonZero (given_back (codes "fill") (codes "#000000")
+    (fill_settings None ++ stroke_settings None) refl) (given_back (codes "fill-rule") (codes "nonzero") (fill_settings None ++ stroke_settings None)
+    refl) none_paint (rule_back NonZero)
+fill_means data_text None (Some s) h =
+    fill_from _ (codes "none") (codes "nonzero") None NonZero (given_back (codes "fill") (codes "#000000") (fill_settings None ++ stroke_settings
+    (Some s)) refl) (given_back (codes "fill-rule") (codes "nonzero") (fill_settings None ++ stroke_settings (Some s)) refl) none_paint
+    (rule_back NonZero)
+fill_means data_text (Some f) None h =
+    fill_from _ (rgb_text f.rgb) (rule_text f.rule) (Some f.rgb) f.rule (given_back (codes "fill") (codes "#000000") (fill_settings (Some f)
+    ++ stroke_settings None) refl) (given_back (codes "fill-rule") (codes "nonzero") (fill_settings (Some f) ++ stroke_settings None) refl)
+    (paint_back f.rgb h) (rule_back f.rule)
+fill_means data_text (Some f) (Some s) h =
+    fill_from _ (rgb_text f.rgb) (rule_text f.rule) (Some f.rgb) f.rule (given_back (codes "fill") (codes "#000000") (fill_settings (Some f)
+    ++ stroke_settings (Some s)) refl) (given_back (codes "fill-rule") (codes "nonzero") (fill_settings (Some f) ++ stroke_settings (Some s)) refl)
+    (paint_back f.rgb h) (rule_back f.rule)
 
 -- ---- a stroke
 
@@ -175,12 +194,18 @@ record StrokeTexts (a : List Attribute) (paint width cap join miter dash phase :
   dash_given : value_or_initial a (codes "stroke-dasharray") (codes "none") ≡ dash
   phase_given : value_or_initial a (codes "stroke-dashoffset") (codes "0") ≡ phase
 
-stroke_from : {a : List Attribute} {paint width cap join miter dash phase : List ℕ} (p : Option Rgb) (w : ℤ) (c : Cap) (j : Join) (m : ℤ) (ds : List ℤ) (f : ℤ) → StrokeTexts a paint width cap join miter dash phase → paint_of paint ≡ Some p → length_value width ≡ Some w → cap_of cap ≡ Some c → join_of join ≡ Some j → miter_of miter ≡ Some m → dashes_of dash ≡ Some ds → scaled_of phase ≡ Some f → stroke_of a ≡ Some (option_map (λ rgb. record { rgb = rgb; width = w; cap = c; join = j; miter = m; dash = ds; phase = f }) p)
+stroke_from : {a : List Attribute} {paint width cap join miter dash phase : List ℕ} (p : Option Rgb) (w : ℤ) (c : Cap) (j : Join) (m : ℤ)
+    (ds : List ℤ) (f : ℤ)
+    → StrokeTexts a paint width cap join miter dash phase → paint_of paint ≡ Some p → length_value width ≡ Some w → cap_of cap ≡ Some c
+    → join_of join ≡ Some j → miter_of miter ≡ Some m → dashes_of dash ≡ Some ds → scaled_of phase ≡ Some f
+    → stroke_of a ≡ Some (option_map (λ rgb. record { rgb = rgb; width = w; cap = c; join = j; miter = m; dash = ds; phase = f }) p)
 unfolding stroke_of
 stroke_from p w c j m ds f t e1 e2 e3 e4 e5 e6 e7 =
     rw (t.paint_given, e1, t.width_given, e2, t.cap_given, e3, t.join_given, e4, t.miter_given, e5, t.dash_given, e6, t.phase_given, e7) refl
 
-texts_of : (data_text : List ℕ) (fill : Option Fill) (s : Stroke) → StrokeTexts ((codes "d", data_text) ∷ differing (fill_settings fill ++ stroke_settings (Some s))) (rgb_text s.rgb) (text_of s.width) (cap_text s.cap) (join_text s.join) (text_of s.miter) (dash_text s.dash) (text_of s.phase)
+texts_of : (data_text : List ℕ) (fill : Option Fill) (s : Stroke)
+    → StrokeTexts ((codes "d", data_text) ∷ differing (fill_settings fill ++ stroke_settings (Some s))) (rgb_text s.rgb) (text_of s.width)
+        (cap_text s.cap) (join_text s.join) (text_of s.miter) (dash_text s.dash) (text_of s.phase)
 texts_of data_text None s = record {
   paint_given = given_back (codes "stroke") (codes "none") (fill_settings None ++ stroke_settings (Some s)) refl;
   width_given = given_back (codes "stroke-width") (codes "1") (fill_settings None ++ stroke_settings (Some s)) refl;
@@ -200,7 +225,9 @@ texts_of data_text (Some f) s = record {
   phase_given = given_back (codes "stroke-dashoffset") (codes "0") (fill_settings (Some f) ++ stroke_settings (Some s)) refl;
 }
 
-no_texts : (data_text : List ℕ) (fill : Option Fill) → StrokeTexts ((codes "d", data_text) ∷ differing (fill_settings fill ++ [])) (codes "none") (codes "1") (codes "butt") (codes "miter") (codes "4") (codes "none") (codes "0")
+no_texts : (data_text : List ℕ) (fill : Option Fill)
+    → StrokeTexts ((codes "d", data_text) ∷ differing (fill_settings fill ++ [])) (codes "none") (codes "1") (codes "butt") (codes "miter")
+        (codes "4") (codes "none") (codes "0")
 no_texts data_text None = record {
   paint_given = given_back (codes "stroke") (codes "none") (fill_settings None) refl;
   width_given = given_back (codes "stroke-width") (codes "1") (fill_settings None) refl;
@@ -236,9 +263,15 @@ initial_dash : dashes_of (codes "none") ≡ Some []
 unfolding dashes_of
 initial_dash = refl
 
-pub stroke_means : (data_text : List ℕ) (fill : Option Fill) (stroke : Option Stroke) → StrokeInRange stroke → FitsStroke stroke → stroke_of ((codes "d", data_text) ∷ differing (fill_settings fill ++ stroke_settings stroke)) ≡ Some stroke
-stroke_means data_text fill None h f = stroke_from None (pos 65536) cap.Butt join.Miter (pos 262144) [] (pos 0) (no_texts data_text fill) none_paint initial_width (cap_back cap.Butt) (join_back join.Miter) initial_miter initial_dash initial_phase
-stroke_means data_text fill (Some s) h f = stroke_from (Some s.rgb) s.width s.cap s.join s.miter s.dash s.phase (texts_of data_text fill s) (paint_back s.rgb h.rgb) (length_back s.width h.width (signs.0)) (cap_back s.cap) (join_back s.join) (miter_back s.miter h.miter signs.1) (dash_back s.dash h.dash h.dashes) (scaled_back s.phase h.phase)
+pub stroke_means : (data_text : List ℕ) (fill : Option Fill) (stroke : Option Stroke) → StrokeInRange stroke → FitsStroke stroke
+    → stroke_of ((codes "d", data_text) ∷ differing (fill_settings fill ++ stroke_settings stroke)) ≡ Some stroke
+stroke_means data_text fill None h f =
+    stroke_from None (pos 65536) cap.Butt join.Miter (pos 262144) [] (pos 0) (no_texts data_text fill) none_paint initial_width (cap_back cap.Butt)
+    (join_back join.Miter) initial_miter initial_dash initial_phase
+stroke_means data_text fill (Some s) h f =
+    stroke_from (Some s.rgb) s.width s.cap s.join s.miter s.dash s.phase (texts_of data_text fill s) (paint_back s.rgb h.rgb)
+    (length_back s.width h.width (signs.0)) (cap_back s.cap) (join_back s.join) (miter_back s.miter h.miter signs.1)
+    (dash_back s.dash h.dash h.dashes) (scaled_back s.phase h.phase)
   where
     signs : (int_le (pos 0) s.width ≡ true) × (int_le (pos 65536) s.miter ≡ true)
     signs =

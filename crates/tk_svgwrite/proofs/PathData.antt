@@ -8,7 +8,8 @@ use Rattle.tk_num.specs.Number.{IsScaled, is_scaled}
 use Rattle.tk_item.specs.declared.Point.{Point}
 use Rattle.tk_item.specs.declared.Seg.{Seg}
 use Rattle.tk_item.specs.declared.Seg.TheVariants.{Move, Line, Curve, Close}
-use Rattle.tk_svg.specs.PathData.{Letter, PathCommand, PathCommands, ends, named, LineTo, MoveTo, CurveTo, ClosePath, command_piece, command_pieces, scaled_point, IsPathData}
+use Rattle.tk_svg.specs.PathData.{Letter, PathCommand, PathCommands, ends, named, LineTo, MoveTo, CurveTo, ClosePath, command_piece, command_pieces}
+use Rattle.tk_svg.specs.PathData.{scaled_point, IsPathData}
 use Rattle.tk_svg.specs.Fitting.{FitsBox, BeginsWithMove}
 use Rattle.tk_svg.proofs.Numbers.{EndsNumber}
 use Rattle.tk_svgwrite.specs.Plain.{numbers_text, numbers_of_point, piece_text, data_text}
@@ -35,8 +36,10 @@ neg_fits z h = omega (arith, h, unsigned_abs-neg z)
 one_fits : (p : Point) → PointInRange p → AllByRecursion FitsBox (numbers_of_point p)
 one_fits p h = (scaled_fits p.x h.x, (neg_fits p.y h.y, tt))
 
-three_fit : (p q r : Point) → PointInRange p → PointInRange q → PointInRange r → AllByRecursion FitsBox (numbers_of_point p ++ numbers_of_point q ++ numbers_of_point r)
-three_fit p q r h i j = (scaled_fits p.x h.x, (neg_fits p.y h.y, (scaled_fits q.x i.x, (neg_fits q.y i.y, (scaled_fits r.x j.x, (neg_fits r.y j.y, tt))))))
+three_fit : (p q r : Point) → PointInRange p → PointInRange q → PointInRange r
+    → AllByRecursion FitsBox (numbers_of_point p ++ numbers_of_point q ++ numbers_of_point r)
+three_fit p q r h i j =
+    (scaled_fits p.x h.x, (neg_fits p.y h.y, (scaled_fits q.x i.x, (neg_fits q.y i.y, (scaled_fits r.x j.x, (neg_fits r.y j.y, tt))))))
 
 -- ---- commands
 
@@ -60,9 +63,13 @@ data_ends (Close ∷ segs) = (refl, refl)
 
 data_commands : (k : Letter) (segs : List Seg) → AllByRecursion PieceInRange segs → PathCommands k (data_text segs) (commands_of segs)
 data_commands k [] h = ends refl
-data_commands k (Move p ∷ segs) h = named refl refl (numbers_back p.x (neg_ℤ p.y ∷ []) (data_text segs) (one_fits p h.0) (data_ends segs)) (data_commands LineTo segs h.1)
-data_commands k (Line p ∷ segs) h = named refl refl (numbers_back p.x (neg_ℤ p.y ∷ []) (data_text segs) (one_fits p h.0) (data_ends segs)) (data_commands LineTo segs h.1)
-data_commands k (Curve p q r ∷ segs) h = named refl refl (numbers_back p.x (neg_ℤ p.y ∷ numbers_of_point q ++ numbers_of_point r) (data_text segs) (three_fit p q r h.0.0 h.0.1 h.0.2) (data_ends segs)) (data_commands CurveTo segs h.1)
+data_commands k (Move p ∷ segs) h =
+    named refl refl (numbers_back p.x (neg_ℤ p.y ∷ []) (data_text segs) (one_fits p h.0) (data_ends segs)) (data_commands LineTo segs h.1)
+data_commands k (Line p ∷ segs) h =
+    named refl refl (numbers_back p.x (neg_ℤ p.y ∷ []) (data_text segs) (one_fits p h.0) (data_ends segs)) (data_commands LineTo segs h.1)
+data_commands k (Curve p q r ∷ segs) h =
+    named refl refl (numbers_back p.x (neg_ℤ p.y ∷ numbers_of_point q ++ numbers_of_point r) (data_text segs) (three_fit p q r h.0.0 h.0.1 h.0.2)
+    (data_ends segs)) (data_commands CurveTo segs h.1)
 data_commands k (Close ∷ segs) h = named refl refl refl (data_commands ClosePath segs h.1)
 
 -- ---- what the commands stand for

@@ -13,6 +13,7 @@ was_true false e = absurd (false≢true e)
 pub same_number : (x y : ℤ) → false ≡ not (int_eq x y) → x ≡ y
 same_number x y e = (Decides-int_eq x y).0 (was_true (int_eq x y) e)
 
-pub same_stroke : (a b : Stroke) → a.rgb ≡ b.rgb → a.width ≡ b.width → a.cap ≡ b.cap → a.join ≡ b.join → a.miter ≡ b.miter → a.dash ≡ b.dash → a.phase ≡ b.phase → a ≡ b
+pub same_stroke : (a b : Stroke) → a.rgb ≡ b.rgb → a.width ≡ b.width → a.cap ≡ b.cap → a.join ≡ b.join → a.miter ≡ b.miter → a.dash ≡ b.dash
+    → a.phase ≡ b.phase → a ≡ b
 same_stroke a b rgb width cap join miter dash phase =
     λ k. record { rgb = rgb k; width = width k; cap = cap k; join = join k; miter = miter k; dash = dash k; phase = phase k }

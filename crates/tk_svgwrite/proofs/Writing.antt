@@ -1,5 +1,6 @@
 -- What is written part by part is the whole.
-use Rattle.std.proofs.Common.{◌≤◌, arith, ◌≡◌, ℕ, ◌+◌, ◌<◌, Bool, cond, true, false, List, [], ◌∷◌, ◌++◌, length, get_or, take, refl, sym, ap, subst, ◌∙◌, append_assoc}
+use Rattle.std.proofs.Common.{◌≤◌, arith, ◌≡◌, ℕ, ◌+◌, ◌<◌, Bool, cond, true, false, List, [], ◌∷◌, ◌++◌, length, get_or, take, refl, sym, ap, subst}
+use Rattle.std.proofs.Common.{◌∙◌, append_assoc}
 use Rattle.std.specs.Prelude.{ℤ, Option, Some, codes, flat_map, bytes_eq}
 use Rattle.std.specs.List.{All, AllByRecursion}
 use Rattle.std.proofs.lemmas.List.{append-nil, flat_map_more, take_more, take_all}
@@ -16,7 +17,9 @@ use Rattle.tk_item.specs.declared.Item.{Item}
 use Rattle.tk_item.specs.declared.Item.TheVariants.{Path}
 use Rattle.tk_item.specs.declared.Drawing.{Drawing}
 use Rattle.tk_svg.specs.Document.{declaration}
-use Rattle.tk_svgwrite.specs.Plain.{attribute_text, attributes_text, Setting, setting, differing, numbers_text, rgb_text, rule_text, cap_text, join_text, dash_text, data_text, fill_settings, stroke_settings, item_text, frame_width, frame_height, points_text, box_text, svg_attributes, svg_text, document_text}
+use Rattle.tk_svgwrite.specs.Plain.{attribute_text, attributes_text, Setting, setting, differing, numbers_text, rgb_text, rule_text, cap_text}
+use Rattle.tk_svgwrite.specs.Plain.{join_text, dash_text, data_text, fill_settings, stroke_settings, item_text, frame_width, frame_height}
+use Rattle.tk_svgwrite.specs.Plain.{points_text, box_text, svg_attributes, svg_text, document_text}
 use Rattle.tk_svgwrite.specs.Presentations.{presentation_text}
 use Rattle.tk_svgwrite.proofs.Paint.{all_fit, dash_no_none}
 
@@ -33,7 +36,8 @@ unfolding differing
 differing-append [] b = refl
 differing-append (s ∷ a) b = by_test (bytes_eq s.value s.initial) (differing-append a b)
   where
-    by_test : (t : Bool) → differing (a ++ b) ≡ differing a ++ differing b → cond t (differing (a ++ b)) ((s.name, s.value) ∷ differing (a ++ b)) ≡ cond t (differing a) ((s.name, s.value) ∷ differing a) ++ differing b
+    by_test : (t : Bool) → differing (a ++ b) ≡ differing a ++ differing b
+        → cond t (differing (a ++ b)) ((s.name, s.value) ∷ differing (a ++ b)) ≡ cond t (differing a) ((s.name, s.value) ∷ differing a) ++ differing b
     by_test true e = e
     by_test false e = ap (λ (w : List Attribute). (s.name, s.value) ∷ w) e
 
@@ -45,11 +49,14 @@ pub settings_text-append : (a b : List Setting) → settings_text (a ++ b) ≡ s
 settings_text-append a b = ap attributes_text (differing-append a b) ∙ flat_map-append attribute_text (differing a) (differing b)
 
 -- one setting more, and one attribute more
-pub setting_step : (done : List Setting) (s : Setting) (before now new : List ℕ) → now ≡ before ++ settings_text done → new ≡ now ++ settings_text (s ∷ []) → new ≡ before ++ settings_text (done ++ s ∷ [])
+pub setting_step : (done : List Setting) (s : Setting) (before now new : List ℕ) → now ≡ before ++ settings_text done
+    → new ≡ now ++ settings_text (s ∷ []) → new ≡ before ++ settings_text (done ++ s ∷ [])
 setting_step done s before now new so_far more =
-    more ∙ ap (λ (w : List ℕ). w ++ settings_text (s ∷ [])) so_far ∙ append_assoc before (settings_text done) (settings_text (s ∷ [])) ∙ ap (λ w. before ++ w) (sym (settings_text-append done (s ∷ [])))
+    more ∙ ap (λ (w : List ℕ). w ++ settings_text (s ∷ [])) so_far ∙ append_assoc before (settings_text done) (settings_text (s ∷ []))
+        ∙ ap (λ w. before ++ w) (sym (settings_text-append done (s ∷ [])))
 
-pub attribute_step : (done : List Attribute) (a : Attribute) (before now new : List ℕ) → now ≡ before ++ attributes_text done → new ≡ now ++ attribute_text a → new ≡ before ++ attributes_text (done ++ a ∷ [])
+pub attribute_step : (done : List Attribute) (a : Attribute) (before now new : List ℕ) → now ≡ before ++ attributes_text done
+    → new ≡ now ++ attribute_text a → new ≡ before ++ attributes_text (done ++ a ∷ [])
 attribute_step done a before now new so_far more =
     more ∙ ap (λ (w : List ℕ). w ++ attribute_text a) so_far ∙ flat_map_more attribute_text before done a
 
@@ -67,15 +74,20 @@ unfolding differing
 no_dashes before [] e = sym (append-nil before)
 no_dashes before (x ∷ xs) e = absurd (omega arith)
 
-dashes_text : (x : ℤ) (xs : List ℤ) → AllByRecursion IsScaled (x ∷ xs) → length (x ∷ xs) ≤ 16 → settings_text (dash_setting (x ∷ xs) ∷ []) ≡ codes " " ++ codes "stroke-dasharray" ++ codes "=\"" ++ numbers_text (x ∷ xs) ++ codes "\""
+dashes_text : (x : ℤ) (xs : List ℤ) → AllByRecursion IsScaled (x ∷ xs) → length (x ∷ xs) ≤ 16
+    → settings_text (dash_setting (x ∷ xs) ∷ []) ≡ codes " " ++ codes "stroke-dasharray" ++ codes "=\"" ++ numbers_text (x ∷ xs) ++ codes "\""
 unfolding differing
 dashes_text x xs h few = rw (dash_no_none x xs (all_fit (x ∷ xs) h) few _ refl) (append-nil _)
 
-pub some_dashes : (before opened now : List ℕ) (x : ℤ) (xs ds : List ℤ) → ds ≡ x ∷ xs → opened ≡ before ++ (codes " " ++ codes "stroke-dasharray" ++ codes "=\"") → now ≡ opened ++ numbers_text (x ∷ xs) → AllByRecursion IsScaled (x ∷ xs) → AreDashes ds → now ++ codes "\"" ≡ before ++ settings_text (dash_setting ds ∷ [])
+pub some_dashes : (before opened now : List ℕ) (x : ℤ) (xs ds : List ℤ) → ds ≡ x ∷ xs
+    → opened ≡ before ++ (codes " " ++ codes "stroke-dasharray" ++ codes "=\"") → now ≡ opened ++ numbers_text (x ∷ xs)
+    → AllByRecursion IsScaled (x ∷ xs) → AreDashes ds → now ++ codes "\"" ≡ before ++ settings_text (dash_setting ds ∷ [])
 some_dashes before opened now x xs ds is o n h d =
     let few : length (x ∷ xs) ≤ 16 = subst (λ (w : List ℤ). length w ≤ 16) is d.few in
-    let same : settings_text (dash_setting ds ∷ []) ≡ settings_text (dash_setting (x ∷ xs) ∷ []) = ap (λ (w : List ℤ). settings_text (dash_setting w ∷ [])) is in
-    ap (λ (w : List ℕ). w ++ codes "\"") (n ∙ ap (λ (w : List ℕ). w ++ numbers_text (x ∷ xs)) o) ∙ joined_inside before (codes " " ++ codes "stroke-dasharray" ++ codes "=\"") (numbers_text (x ∷ xs)) (codes "\"")
+    let same : settings_text (dash_setting ds ∷ []) ≡ settings_text (dash_setting (x ∷ xs) ∷ []) = ap (λ (w : List ℤ). settings_text
+            (dash_setting w ∷ [])) is in
+    ap (λ (w : List ℕ). w ++ codes "\"") (n ∙ ap (λ (w : List ℕ). w ++ numbers_text (x ∷ xs)) o)
+        ∙ joined_inside before (codes " " ++ codes "stroke-dasharray" ++ codes "=\"") (numbers_text (x ∷ xs)) (codes "\"")
     ∙ ap (λ w. before ++ w) (sym (same ∙ dashes_text x xs h few))
 
 -- ---- elements
@@ -90,7 +102,8 @@ pub presentation_parts : (before quoted filled drawn all : List ℕ) (fill : Opt
     → all ≡ presentation_text fill stroke
 presentation_parts before quoted filled drawn all fill stroke none q f d e =
     e
-    ∙ ap (λ (w : List ℕ). w ++ codes "/>\n") (d ∙ ap (λ (w : List ℕ). w ++ settings_text (stroke_settings stroke)) (f ∙ ap (λ (w : List ℕ). w ++ settings_text (fill_settings fill)) (q ∙ ap (λ (w : List ℕ). w ++ codes "\"") none)))
+    ∙ ap (λ (w : List ℕ). w ++ codes "/>\n") (d ∙ ap (λ (w : List ℕ). w ++ settings_text (stroke_settings stroke)) (f
+        ∙ ap (λ (w : List ℕ). w ++ settings_text (fill_settings fill)) (q ∙ ap (λ (w : List ℕ). w ++ codes "\"") none)))
     ∙ ap (λ (w : List ℕ). w ++ codes "/>\n") (append_assoc (codes "\"") (settings_text (fill_settings fill)) (settings_text (stroke_settings stroke)))
     ∙ ap (λ (w : List ℕ). codes "\"" ++ w ++ codes "/>\n") (sym (settings_text-append (fill_settings fill) (stroke_settings stroke)))
 
@@ -106,44 +119,59 @@ unfolding item_text
 path_parts before opened described all segs fill stroke o d e =
     e
     ∙ ap (λ (w : List ℕ). w ++ presentation_text fill stroke) (d ∙ ap (λ (w : List ℕ). w ++ data_text segs) o)
-    ∙ path_shape before (codes "<path") (codes " d=\"") (data_text segs) (codes "\"") (settings_text (fill_settings fill ++ stroke_settings stroke)) (codes "/>\n")
+    ∙ path_shape before (codes "<path") (codes " d=\"") (data_text segs) (codes "\"") (settings_text (fill_settings fill ++ stroke_settings stroke))
+        (codes "/>\n")
 
-pub svg_parts : (before now : List ℕ) (d : Drawing) → now ≡ (before ++ codes "<svg") ++ attributes_text (svg_attributes d) → now ++ codes ">\n" ≡ before ++ svg_text d
+pub svg_parts : (before now : List ℕ) (d : Drawing) → now ≡ (before ++ codes "<svg") ++ attributes_text (svg_attributes d)
+    → now ++ codes ">\n" ≡ before ++ svg_text d
 unfolding svg_text
-svg_parts before now d e = ap (λ (w : List ℕ). w ++ codes ">\n") e ∙ joined_inside before (codes "<svg") (attributes_text (svg_attributes d)) (codes ">\n")
+svg_parts before now d e =
+    ap (λ (w : List ℕ). w ++ codes ">\n") e ∙ joined_inside before (codes "<svg") (attributes_text (svg_attributes d)) (codes ">\n")
 
 -- ---- steps of loops
 
-pub flat_map_step : {X : Type 0} (f : X → List ℕ) (xs : List X) (i : ℕ) (x : X) (before now new : List ℕ) → i < length xs → x ≡ get_or xs i x → now ≡ before ++ flat_map f (take i xs) → new ≡ now ++ f x → new ≡ before ++ flat_map f (take (i + 1) xs)
+pub flat_map_step : {X : Type 0} (f : X → List ℕ) (xs : List X) (i : ℕ) (x : X) (before now new : List ℕ) → i < length xs → x ≡ get_or xs i x
+    → now ≡ before ++ flat_map f (take i xs) → new ≡ now ++ f x → new ≡ before ++ flat_map f (take (i + 1) xs)
 flat_map_step f xs i x before now new lt here so_far more =
     more ∙ ap (λ (w : List ℕ). w ++ f x) so_far ∙ flat_map_more f before (take i xs) x
     ∙ ap (λ w. before ++ flat_map f w) (sym (take_more xs i x lt ∙ ap (λ y. take i xs ++ y ∷ []) (sym here)))
 
-pub all_step : {X : Type 0} (P : X → Type 0) (xs : List X) (i : ℕ) (x : X) → i < length xs → x ≡ get_or xs i x → All P (take i xs) → P x → All P (take (i + 1) xs)
+pub all_step : {X : Type 0} (P : X → Type 0) (xs : List X) (i : ℕ) (x : X) → i < length xs → x ≡ get_or xs i x → All P (take i xs) → P x
+    → All P (take (i + 1) xs)
 all_step P xs i x lt here so_far more = All-more P xs i x lt so_far (subst P here more)
 
 -- ---- the letters of a family
 
-pub letters_step : (xs : List ℕ) (i x : ℕ) (before now new : List ℕ) → i < length xs → x ≡ get_or xs i x → now ≡ before ++ take i xs → new ≡ now ++ x ∷ [] → new ≡ before ++ take (i + 1) xs
+pub letters_step : (xs : List ℕ) (i x : ℕ) (before now new : List ℕ) → i < length xs → x ≡ get_or xs i x → now ≡ before ++ take i xs
+    → new ≡ now ++ x ∷ [] → new ≡ before ++ take (i + 1) xs
 letters_step xs i x before now new lt here so_far more =
-    more ∙ ap (λ (w : List ℕ). w ++ x ∷ []) so_far ∙ append_assoc before (take i xs) (x ∷ []) ∙ ap (λ (w : List ℕ). before ++ w) (sym (take_more xs i x lt ∙ ap (λ y. take i xs ++ y ∷ []) (sym here)))
+    more ∙ ap (λ (w : List ℕ). w ++ x ∷ []) so_far ∙ append_assoc before (take i xs) (x ∷ []) ∙ ap (λ (w : List ℕ). before ++ w)
+        (sym (take_more xs i x lt ∙ ap (λ y. take i xs ++ y ∷ []) (sym here)))
 
-pub family_parts : (before opened now family : List ℕ) (i : ℕ) → length family ≤ i → opened ≡ before ++ (codes " " ++ codes "font-family" ++ codes "=\"") → now ≡ opened ++ take i family → now ++ codes "\"" ≡ before ++ attribute_text (codes "font-family", family)
+pub family_parts : (before opened now family : List ℕ) (i : ℕ) → length family ≤ i
+    → opened ≡ before ++ (codes " " ++ codes "font-family" ++ codes "=\"") → now ≡ opened ++ take i family
+    → now ++ codes "\"" ≡ before ++ attribute_text (codes "font-family", family)
 family_parts before opened now family i le o n =
-    ap (λ (w : List ℕ). w ++ codes "\"") (n ∙ ap (λ (w : List ℕ). opened ++ w) (take_all i family le) ∙ ap (λ (w : List ℕ). w ++ family) o) ∙ joined_inside before (codes " " ++ codes "font-family" ++ codes "=\"") family (codes "\"")
+    ap (λ (w : List ℕ). w ++ codes "\"") (n ∙ ap (λ (w : List ℕ). opened ++ w) (take_all i family le) ∙ ap (λ (w : List ℕ). w ++ family) o)
+        ∙ joined_inside before (codes " " ++ codes "font-family" ++ codes "=\"") family (codes "\"")
 
 -- ---- a fill and a stroke
 
-pub fill_parts : (before first : List ℕ) (fill : Option Fill) (f : Fill) (colour rule : List ℕ) → fill ≡ Some f → colour ≡ rgb_text f.rgb → rule ≡ rule_text f.rule → first ≡ before ++ settings_text (setting (codes "fill") (codes "#000000") colour ∷ []) →
+pub fill_parts : (before first : List ℕ) (fill : Option Fill) (f : Fill) (colour rule : List ℕ) → fill ≡ Some f → colour ≡ rgb_text f.rgb
+    → rule ≡ rule_text f.rule → first ≡ before ++ settings_text (setting (codes "fill") (codes "#000000") colour ∷ []) →
     first ++ settings_text (setting (codes "fill-rule") (codes "nonzero") rule ∷ []) ≡ before ++ settings_text (fill_settings fill)
 fill_parts before first fill f colour rule e c r h =
     setting_step (setting (codes "fill") (codes "#000000") colour ∷ []) (setting (codes "fill-rule") (codes "nonzero") rule) before first _ h refl
-    ∙ ap (λ (w : List ℕ). before ++ settings_text (setting (codes "fill") (codes "#000000") w ∷ setting (codes "fill-rule") (codes "nonzero") rule ∷ [])) c
-    ∙ ap (λ (w : List ℕ). before ++ settings_text (setting (codes "fill") (codes "#000000") (rgb_text f.rgb) ∷ setting (codes "fill-rule") (codes "nonzero") w ∷ [])) r
+    ∙ ap (λ (w : List ℕ). before ++ settings_text (setting (codes "fill") (codes "#000000") w ∷ setting (codes "fill-rule") (codes "nonzero") rule
+        ∷ [])) c
+    ∙ ap (λ (w : List ℕ). before ++ settings_text (setting (codes "fill") (codes "#000000") (rgb_text f.rgb) ∷ setting (codes "fill-rule")
+        (codes "nonzero") w ∷ [])) r
     ∙ ap (λ (w : Option Fill). before ++ settings_text (fill_settings w)) (sym e)
 
 -- seven settings, one behind another
-pub seven_settings : (before o1 o2 o3 o4 o5 o6 : List ℕ) (a b c d e f g : Setting) → o1 ≡ before ++ settings_text (a ∷ []) → o2 ≡ o1 ++ settings_text (b ∷ []) → o3 ≡ o2 ++ settings_text (c ∷ []) → o4 ≡ o3 ++ settings_text (d ∷ []) → o5 ≡ o4 ++ settings_text (e ∷ []) → o6 ≡ o5 ++ settings_text (f ∷ []) →
+pub seven_settings : (before o1 o2 o3 o4 o5 o6 : List ℕ) (a b c d e f g : Setting) → o1 ≡ before ++ settings_text (a ∷ [])
+    → o2 ≡ o1 ++ settings_text (b ∷ []) → o3 ≡ o2 ++ settings_text (c ∷ []) → o4 ≡ o3 ++ settings_text (d ∷ []) → o5 ≡ o4 ++ settings_text (e ∷ [])
+    → o6 ≡ o5 ++ settings_text (f ∷ []) →
     o6 ++ settings_text (g ∷ []) ≡ before ++ settings_text (a ∷ b ∷ c ∷ d ∷ e ∷ f ∷ g ∷ [])
 seven_settings before o1 o2 o3 o4 o5 o6 a b c d e f g h1 h2 h3 h4 h5 h6 =
     let h2 = setting_step (a ∷ []) b before o1 o2 h1 h2 in
@@ -154,8 +182,12 @@ seven_settings before o1 o2 o3 o4 o5 o6 a b c d e f g h1 h2 h3 h4 h5 h6 =
     setting_step (a ∷ b ∷ c ∷ d ∷ e ∷ f ∷ []) g before o6 _ h6 refl
 
 -- seven attributes, one behind another
-pub svg_steps : (before o1 o2 o3 o4 o5 o6 o7 : List ℕ) (d : Drawing) → o1 ≡ before ++ attribute_text (codes "xmlns", codes "http://www.w3.org/2000/svg") → o2 ≡ o1 ++ attribute_text (codes "version", codes "1.1") → o3 ≡ o2 ++ attribute_text (codes "width", points_text (frame_width d.frame)) → o4 ≡ o3 ++ attribute_text (codes "height", points_text (frame_height d.frame)) →
-    o5 ≡ o4 ++ attribute_text (codes "viewBox", box_text d.frame) → o6 ≡ o5 ++ attribute_text (codes "font-family", d.family) → o7 ≡ o6 ++ attribute_text (codes "font-size", text_of d.size) → o7 ≡ before ++ attributes_text (svg_attributes d)
+pub svg_steps : (before o1 o2 o3 o4 o5 o6 o7 : List ℕ) (d : Drawing)
+    → o1 ≡ before ++ attribute_text (codes "xmlns", codes "http://www.w3.org/2000/svg") → o2 ≡ o1 ++ attribute_text (codes "version", codes "1.1")
+    → o3 ≡ o2 ++ attribute_text (codes "width", points_text (frame_width d.frame))
+    → o4 ≡ o3 ++ attribute_text (codes "height", points_text (frame_height d.frame)) →
+    o5 ≡ o4 ++ attribute_text (codes "viewBox", box_text d.frame) → o6 ≡ o5 ++ attribute_text (codes "font-family", d.family)
+        → o7 ≡ o6 ++ attribute_text (codes "font-size", text_of d.size) → o7 ≡ before ++ attributes_text (svg_attributes d)
 svg_steps before o1 o2 o3 o4 o5 o6 o7 d h1 h2 h3 h4 h5 h6 h7 =
     let a : Attribute = (codes "xmlns", codes "http://www.w3.org/2000/svg") in
     let b : Attribute = (codes "version", codes "1.1") in
@@ -171,9 +203,14 @@ svg_steps before o1 o2 o3 o4 o5 o6 o7 d h1 h2 h3 h4 h5 h6 h7 =
     let h6 = attribute_step (a ∷ b ∷ c ∷ e ∷ f ∷ []) g before o5 o6 h5 h6 in
     attribute_step (a ∷ b ∷ c ∷ e ∷ f ∷ g ∷ []) (codes "font-size", text_of d.size) before o6 o7 h6 h7
 
-pub pen_parts : (before o1 o2 o3 o4 o5 o6 : List ℕ) (s : Stroke) (colour ends joins : List ℕ) → colour ≡ rgb_text s.rgb → ends ≡ cap_text s.cap → joins ≡ join_text s.join →
-    o1 ≡ before ++ settings_text (setting (codes "stroke") (codes "none") colour ∷ []) → o2 ≡ o1 ++ settings_text (setting (codes "stroke-width") (codes "1") (text_of s.width) ∷ []) → o3 ≡ o2 ++ settings_text (setting (codes "stroke-linecap") (codes "butt") ends ∷ []) → o4 ≡ o3 ++ settings_text (setting (codes "stroke-linejoin") (codes "miter") joins ∷ []) →
-    o5 ≡ o4 ++ settings_text (setting (codes "stroke-miterlimit") (codes "4") (text_of s.miter) ∷ []) → o6 ≡ o5 ++ settings_text (dash_setting s.dash ∷ []) →
+pub pen_parts : (before o1 o2 o3 o4 o5 o6 : List ℕ) (s : Stroke) (colour ends joins : List ℕ) → colour ≡ rgb_text s.rgb → ends ≡ cap_text s.cap
+    → joins ≡ join_text s.join →
+    o1 ≡ before ++ settings_text (setting (codes "stroke") (codes "none") colour ∷ [])
+        → o2 ≡ o1 ++ settings_text (setting (codes "stroke-width") (codes "1") (text_of s.width) ∷ [])
+        → o3 ≡ o2 ++ settings_text (setting (codes "stroke-linecap") (codes "butt") ends ∷ [])
+        → o4 ≡ o3 ++ settings_text (setting (codes "stroke-linejoin") (codes "miter") joins ∷ []) →
+    o5 ≡ o4 ++ settings_text (setting (codes "stroke-miterlimit") (codes "4") (text_of s.miter) ∷ [])
+        → o6 ≡ o5 ++ settings_text (dash_setting s.dash ∷ []) →
     o6 ++ settings_text (setting (codes "stroke-dashoffset") (codes "0") (text_of s.phase) ∷ []) ≡ before ++ settings_text (stroke_settings (Some s))
 pen_parts before o1 o2 o3 o4 o5 o6 s colour ends joins e f g h1 h2 h3 h4 h5 h6 =
     let h1 = h1 ∙ ap (λ (w : List ℕ). before ++ settings_text (setting (codes "stroke") (codes "none") w ∷ [])) e in
@@ -183,7 +220,8 @@ pen_parts before o1 o2 o3 o4 o5 o6 s colour ends joins e f g h1 h2 h3 h4 h5 h6 =
 
 -- ---- the document
 
-pub document_written : (o1 o2 o3 o4 : List ℕ) (d : Drawing) (items : List Item) (i : ℕ) → o1 ≡ declaration ++ codes "\n" → o2 ≡ o1 ++ svg_text d → items ≡ d.items → length items ≤ i → o3 ≡ o2 ++ flat_map item_text (take i items) → o4 ≡ o3 ++ codes "</svg>\n" → o4 ≡ document_text d
+pub document_written : (o1 o2 o3 o4 : List ℕ) (d : Drawing) (items : List Item) (i : ℕ) → o1 ≡ declaration ++ codes "\n" → o2 ≡ o1 ++ svg_text d
+    → items ≡ d.items → length items ≤ i → o3 ≡ o2 ++ flat_map item_text (take i items) → o4 ≡ o3 ++ codes "</svg>\n" → o4 ≡ document_text d
 unfolding document_text
 document_written o1 o2 o3 o4 d items i e1 e2 is le e3 e4 =
     e4 ∙ ap (λ (w : List ℕ). w ++ codes "</svg>\n")

@@ -1,5 +1,7 @@
--- The one document that the writer makes of a drawing: one element a line, and each attribute of a path exactly where its value is not the initial one.
-use Rattle.std.specs.Prelude.{ℕ, ◌+◌, ◌/◌, ◌%◌, nat_lt, if◌then◌else◌, List, [], ◌∷◌, ◌++◌, flat_map, codes, Option, Some, None, ℤ, neg_ℤ, ◌-ℤ◌, bytes_eq}
+-- The one document that the writer makes of a drawing: one element a line, and each attribute of a path exactly where
+-- its value is not the initial one.
+use Rattle.std.specs.Prelude.{ℕ, ◌+◌, ◌/◌, ◌%◌, nat_lt, if◌then◌else◌, List, [], ◌∷◌, ◌++◌, flat_map, codes, Option}
+use Rattle.std.specs.Prelude.{Some, None, ℤ, neg_ℤ, ◌-ℤ◌, bytes_eq}
 use Rattle.tk_num.specs.Text.{text_of}
 use Rattle.tk_item.specs.declared.Point.{Point}
 use Rattle.tk_item.specs.declared.Seg.{Seg}

@@ -46,7 +46,8 @@ pub fn put_setting(
     initial: &[u8],
     value: &[u8],
 ) -> Result<(), AllocError>
-    ensures { OnOk result (out.new.items ≡ out.old.items ++ attributes_text (differing (setting name.now initial.now value.now ∷ []))) }
+    ensures { OnOk result (out.new.items
+        ≡ out.old.items ++ attributes_text (differing (setting name.now initial.now value.now ∷ []))) }
 {
     if value == initial {
         Ok(())
@@ -62,7 +63,8 @@ pub fn put_number_setting(
     initial: &[u8],
     value: Scaled,
 ) -> Result<(), AllocError>
-    ensures text { OnOk result (out.new.items ≡ out.old.items ++ attributes_text (differing (setting name.now initial.now (text_of value) ∷ []))) }
+    ensures text { OnOk result (out.new.items
+        ≡ out.old.items ++ attributes_text (differing (setting name.now initial.now (text_of value) ∷ []))) }
     ensures range { OnOk result (IsScaled value) }
 {
     let mut digits: Digits = ArrayVec::new();

@@ -7,7 +7,9 @@ ghost use Rattle.tk_num.specs.Text.{text_of};
 ghost use Rattle.tk_item.specs.declared.Item.TheVariants.{Path};
 ghost use Rattle.tk_svg.specs.Document.{IsFamily};
 ghost use Rattle.tk_svg.specs.Fitting.{Fits, FitsBox};
-ghost use Rattle.tk_svgwrite.specs.Plain.{attribute_text, attributes_text, differing, fill_settings, stroke_settings, item_text, points_text, numbers_text, box_text, frame_width, frame_height, svg_text};
+ghost use Rattle.tk_svgwrite.specs.Plain.{attribute_text, attributes_text, differing, fill_settings, stroke_settings};
+ghost use Rattle.tk_svgwrite.specs.Plain.{item_text, points_text, numbers_text, box_text, frame_width, frame_height};
+ghost use Rattle.tk_svgwrite.specs.Plain.{svg_text};
 ghost use Rattle.tk_svgwrite.specs.Presentations.{IsKept};
 ghost use Rattle.tk_svgwrite.specs.Ranges.{FillInRange, StrokeInRange, StrokeNumbersInRange, ItemInRange};
 
@@ -46,7 +48,8 @@ pub fn put_item(
 /// Writes the element of a path that looks so.
 fn put_path(out: &mut Vec<u8>, segs: &[Seg], presentation: &Presentation) -> Result<(), AllocError>
     requires { IsKept presentation.now }
-    ensures text { OnOk result (out.new.items ≡ out.old.items ++ item_text (Path segs.now presentation.now.fill presentation.now.stroke)) }
+    ensures text { OnOk result (out.new.items
+        ≡ out.old.items ++ item_text (Path segs.now presentation.now.fill presentation.now.stroke)) }
     ensures range { OnOk result (ItemInRange (Path segs.now presentation.now.fill presentation.now.stroke)) }
 {
     out.extend_from_slice(b"<path d=\"")?;
@@ -72,7 +75,8 @@ pub fn put_fill(out: &mut Vec<u8>, fill: Option<Fill>) -> Result<(), AllocError>
 /// Writes how a path is drawn.
 #[tactic(auto, unfolding(crate::specs::Plain::differing))]
 pub fn put_stroke(out: &mut Vec<u8>, stroke: &Option<Stroke>) -> Result<(), AllocError>
-    ensures text { OnOk result (out.new.items ≡ out.old.items ++ attributes_text (differing (stroke_settings stroke.now))) }
+    ensures text { OnOk result (out.new.items
+        ≡ out.old.items ++ attributes_text (differing (stroke_settings stroke.now))) }
     ensures range { OnOk result (StrokeInRange stroke.now) }
 {
     match stroke {
@@ -82,7 +86,8 @@ pub fn put_stroke(out: &mut Vec<u8>, stroke: &Option<Stroke>) -> Result<(), Allo
 }
 
 fn put_pen(out: &mut Vec<u8>, stroke: &Stroke) -> Result<(), AllocError>
-    ensures text { OnOk result (out.new.items ≡ out.old.items ++ attributes_text (differing (stroke_settings (Some stroke.now)))) }
+    ensures text { OnOk result (out.new.items
+        ≡ out.old.items ++ attributes_text (differing (stroke_settings (Some stroke.now)))) }
     ensures range { OnOk result (StrokeNumbersInRange stroke.now) }
 {
     put_setting(out, b"stroke", b"none", &rgb_digits(stroke.rgb))?;

@@ -1,5 +1,5 @@
-//! How paths look, as the attributes of SVG that present them. What is written of a path behind its data is kept, and copied
-//! for each path that looks like the one before.
+//! How paths look, as the attributes of SVG that present them. What is written of a path behind its data is kept, and
+//! copied for each path that looks like the one before.
 
 ghost use Rattle.std.specs.Prelude.{◌≡◌, ◌∷◌, ◌++◌, [], OnOk, IfOk, IsTrue, Some};
 ghost use Rattle.tk_svgwrite.specs.Presentations.{presentation_text, IsPresentation, IsKept};

@@ -25,7 +25,8 @@ pub known_of : {A : Type 0} (P : A → Type 0) (m : Answer A) (x : A) → m ≡ 
 known_of P m x is h = subst (λ (m : Answer _). IfOk m P) is h
 
 -- a fact of the last value of two answers, one after the other
-pub then_holds : {A B : Type 0} (P : A → Type 0) (Q : B → Type 0) (m : Answer A) (f : A → Answer B) → IfOk m P → ((x : A) → P x → IfOk (f x) Q) → IfOk (m >>= f) Q
+pub then_holds : {A B : Type 0} (P : A → Type 0) (Q : B → Type 0) (m : Answer A) (f : A → Answer B) → IfOk m P → ((x : A) → P x → IfOk (f x) Q)
+    → IfOk (m >>= f) Q
 then_holds P Q (Ok x) f h k = k x h
 then_holds P Q (Err e) f h k = tt
 

@@ -1,5 +1,6 @@
 -- The braces among tokens.
-use Rattle.std.proofs.Common.{◌≡◌, ℕ, suc, ◌+◌, ◌-◌, ◌<◌, ◌≤◌, List, [], ◌∷◌, ◌++◌, length, map, reverse, drop, get_or, Some, None, Ok, Err, ap, subst, ◌∙◌, arith}
+use Rattle.std.proofs.Common.{◌≡◌, ℕ, suc, ◌+◌, ◌-◌, ◌<◌, ◌≤◌, List, [], ◌∷◌, ◌++◌, length, map, reverse, drop, get_or, Some, None, Ok, Err, ap}
+use Rattle.std.proofs.Common.{subst, ◌∙◌, arith}
 use Rattle.std.specs.List.{slice_get}
 use Rattle.std.specs.Str.{chars}
 use Rattle.std.proofs.Math.Seq.{drop-cons}
@@ -35,24 +36,34 @@ module _ (names : List (List ℕ)) (toks : List Tok) (i : ℕ) (d : Tok) (before
       let one : suc i ≡ i + 1 = omega arith in
       ap (map (token_of names)) (drop-cons toks i d within ∙ ap (λ (n : ℕ). tok ∷ drop n toks) one)
 
-  told_here : open_after_all [] (map (token_of names) toks) ≡ open_after_all before (map (token_of names) (drop i toks)) → open_after_all [] (map (token_of names) toks) ≡ (open_after before (sign_of names tok.kind) tok.at >>= λ (after : List ℕ). open_after_all after (map (token_of names) (drop (i + 1) toks)))
+  told_here : open_after_all [] (map (token_of names) toks) ≡ open_after_all before (map (token_of names) (drop i toks))
+      → open_after_all [] (map (token_of names) toks) ≡ (open_after before (sign_of names tok.kind) tok.at >>= λ (after : List ℕ). open_after_all
+          after (map (token_of names) (drop (i + 1) toks)))
   told_here told = told ∙ ap (open_after_all before) from_here
 
   -- one more token is taken
-  pub one_more : (after : List ℕ) → open_after_all [] (map (token_of names) toks) ≡ open_after_all before (map (token_of names) (drop i toks)) → open_after before (sign_of names tok.kind) tok.at ≡ Ok after → open_after_all [] (map (token_of names) toks) ≡ open_after_all after (map (token_of names) (drop (i + 1) toks))
+  pub one_more : (after : List ℕ) → open_after_all [] (map (token_of names) toks) ≡ open_after_all before (map (token_of names) (drop i toks))
+      → open_after before (sign_of names tok.kind) tok.at ≡ Ok after
+      → open_after_all [] (map (token_of names) toks) ≡ open_after_all after (map (token_of names) (drop (i + 1) toks))
   one_more after told goes =
-      told_here told ∙ then_is (open_after before (sign_of names tok.kind) tok.at) (λ (after : List ℕ). open_after_all after (map (token_of names) (drop (i + 1) toks))) after goes
+      told_here told ∙ then_is (open_after before (sign_of names tok.kind) tok.at) (λ (after : List ℕ). open_after_all after
+          (map (token_of names) (drop (i + 1) toks))) after goes
 
   -- or is at fault
-  pub one_fails : (e : Refusal) → open_after_all [] (map (token_of names) toks) ≡ open_after_all before (map (token_of names) (drop i toks)) → Fails e (open_after before (sign_of names tok.kind) tok.at) → Fails e (balanced (map (token_of names) toks))
+  pub one_fails : (e : Refusal) → open_after_all [] (map (token_of names) toks) ≡ open_after_all before (map (token_of names) (drop i toks))
+      → Fails e (open_after before (sign_of names tok.kind) tok.at) → Fails e (balanced (map (token_of names) toks))
   one_fails e told h =
-      let here : Answer (List ℕ) = open_after before (sign_of names tok.kind) tok.at >>= λ (after : List ℕ). open_after_all after (map (token_of names) (drop (i + 1) toks)) in
+      let here : Answer (List ℕ) = open_after before (sign_of names tok.kind) tok.at >>= λ (after : List ℕ). open_after_all after
+              (map (token_of names) (drop (i + 1) toks)) in
       let all : List Token = map (token_of names) toks in
       fails_as e (balanced all) (here >>= none_open all) (ap (λ (m : Answer (List ℕ)). m >>= none_open all) (told_here told))
-      (fails_then e here (none_open all) (fails_then e (open_after before (sign_of names tok.kind) tok.at) (λ (after : List ℕ). open_after_all after (map (token_of names) (drop (i + 1) toks))) h))
+      (fails_then e here (none_open all) (fails_then e (open_after before (sign_of names tok.kind) tok.at) (λ (after : List ℕ). open_after_all after
+          (map (token_of names) (drop (i + 1) toks))) h))
 
 -- a brace that is left open
-pub left_open : (names : List (List ℕ)) (toks : List Tok) (i : ℕ) (open_at : List ℕ) (at : ℕ) → length toks ≤ i → open_after_all [] (map (token_of names) toks) ≡ open_after_all (reverse open_at) (map (token_of names) (drop i toks)) → Some at ≡ slice_get open_at (length open_at - 1) → balanced (map (token_of names) toks) ≡ fault Brace at
+pub left_open : (names : List (List ℕ)) (toks : List Tok) (i : ℕ) (open_at : List ℕ) (at : ℕ) → length toks ≤ i
+    → open_after_all [] (map (token_of names) toks) ≡ open_after_all (reverse open_at) (map (token_of names) (drop i toks))
+    → Some at ≡ slice_get open_at (length open_at - 1) → balanced (map (token_of names) toks) ≡ fault Brace at
 left_open names toks i open_at at done told last =
     let outer = last_reversed open_at at last in
     let all : List Token = map (token_of names) toks in
@@ -62,7 +73,8 @@ left_open names toks i open_at at done told last =
 
 -- ---- what a source lexes to
 
-module _ (source text : List ℕ) (toks : List Token) (is : text ≡ source) (none : text_fault source ≡ None) (t : Tokens (length text) (after_mark (chars text)) toks) where
+module _ (source text : List ℕ) (toks : List Token) (is : text ≡ source) (none : text_fault source
+    ≡ None) (t : Tokens (length text) (after_mark (chars text)) toks) where
   pub lexes_as : (answer : Answer (List Token)) → balanced toks ≡ answer → Lexes source answer
   lexes_as answer so = subst (Lexes source) so (cut none (subst (λ (s : List ℕ). Tokens (length s) (after_mark (chars s)) toks) is t))
 

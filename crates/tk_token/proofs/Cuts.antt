@@ -2,7 +2,8 @@
 use Rattle.std.proofs.Common.{◌≡◌, ◌≢◌, ℕ, true, false, List, [], ◌∷◌, Option, Some, sym, ap, subst, ◌∙◌}
 use Rattle.std.specs.Prelude.{unwrap_or}
 use Rattle.tk_token.specs.Token.{Sign, A_word, A_symbol, A_space}
-use Rattle.tk_token.specs.Cutting.{is_blank, is_letter, letters_of, after_word, after_gap, makes_space, single, Tokens, gap, word, control_space, symbol, other}
+use Rattle.tk_token.specs.Cutting.{is_blank, is_letter, letters_of, after_word, after_gap, makes_space, single, Tokens, gap, word, control_space}
+use Rattle.tk_token.specs.Cutting.{symbol, other}
 use Rattle.tk_token.specs.Pieces.{CutsOne}
 
 pub gap_cut : (c : ℕ) (cs rest : List ℕ) → is_blank c ≡ true → rest ≡ after_gap cs → CutsOne (c ∷ cs) A_space rest
@@ -14,12 +15,14 @@ single_cut c cs sign b ne ne' is = subst (λ (s : Sign). CutsOne (c ∷ cs) s cs
 pub control_space_cut : (cs rest : List ℕ) → makes_space cs ≡ true → rest ≡ after_gap cs → CutsOne (92 ∷ cs) (A_symbol 32) rest
 control_space_cut cs rest e is = record { cut = λ n ts t. control_space e (subst (λ (r : List ℕ). Tokens n r ts) is t) }
 
-pub symbol_cut : (cs : List ℕ) (c : ℕ) (rest : List ℕ) → cs ≡ c ∷ rest → is_letter c ≡ false → makes_space cs ≡ false → CutsOne (92 ∷ cs) (A_symbol c) rest
+pub symbol_cut : (cs : List ℕ) (c : ℕ) (rest : List ℕ) → cs ≡ c ∷ rest → is_letter c ≡ false → makes_space cs ≡ false
+    → CutsOne (92 ∷ cs) (A_symbol c) rest
 symbol_cut cs c rest is l e =
     subst (λ (r : List ℕ). CutsOne (92 ∷ r) (A_symbol c) rest) (sym is) (record { cut = λ n ts t. symbol l (ap makes_space (sym is) ∙ e) t })
 
 -- a word, whose letters are one of the names
-pub word_cut : (cs rest : List ℕ) (found : Option (List ℕ)) (letters : List ℕ) → (c : ℕ) × (more : List ℕ) × (cs ≡ c ∷ more) × (is_letter c ≡ true) → found ≡ Some letters → letters ≡ letters_of cs → rest ≡ after_gap (after_word cs) → CutsOne (92 ∷ cs) (A_word (unwrap_or found [])) rest
+pub word_cut : (cs rest : List ℕ) (found : Option (List ℕ)) (letters : List ℕ) → (c : ℕ) × (more : List ℕ) × (cs ≡ c ∷ more) × (is_letter c ≡ true)
+    → found ≡ Some letters → letters ≡ letters_of cs → rest ≡ after_gap (after_word cs) → CutsOne (92 ∷ cs) (A_word (unwrap_or found [])) rest
 word_cut cs rest found letters (c, more, is, l) found_is letters_is rest_is =
     let whole : CutsOne (92 ∷ cs) (A_word (letters_of cs)) (after_gap (after_word cs)) =
     subst (λ (r : List ℕ). CutsOne (92 ∷ r) (A_word (letters_of r)) (after_gap (after_word r))) (sym is) (record { cut = λ n ts t. word l t }) in

@@ -1,5 +1,6 @@
 -- Where faults stand.
-use Rattle.std.proofs.Common.{◌≡◌, ℕ, zero, suc, ◌≤◌, Bool, true, false, cond, ltb, ◌==◌, List, [], ◌∷◌, length, take, drop, Option, Some, None, Ok, Err, refl, sym, subst, arith}
+use Rattle.std.proofs.Common.{◌≡◌, ℕ, zero, suc, ◌≤◌, Bool, true, false, cond, ltb, ◌==◌, List, [], ◌∷◌, length, take, drop, Option, Some, None, Ok}
+use Rattle.std.proofs.Common.{Err, refl, sym, subst, arith}
 use Rattle.std.specs.Prelude.{if◌then◌else◌, IfOk, IfErr, IfSome, MatchResult}
 use Rattle.std.specs.Option.{option_map}
 use Rattle.std.specs.List.{AllByRecursion, position_or_len}
@@ -46,9 +47,11 @@ module _ (P : ℕ → Type 0) where
   goes_on (Ok x) f h k = k x h
   goes_on (Err e) f h k = h
 
-  after_all : (open_at : List ℕ) (toks : List Token) → AllByRecursion P open_at → AllByRecursion (λ (t : Token). P t.at) toks → Stands (open_after_all open_at toks)
+  after_all : (open_at : List ℕ) (toks : List Token) → AllByRecursion P open_at → AllByRecursion (λ (t : Token). P t.at) toks
+      → Stands (open_after_all open_at toks)
   after_all open_at [] h k = h
-  after_all open_at (t ∷ ts) h k = goes_on (open_after open_at t.sign t.at) (λ still. open_after_all still ts) (after_one open_at t.sign t.at h k.0) (λ still all. after_all still ts all k.1)
+  after_all open_at (t ∷ ts) h k = goes_on (open_after open_at t.sign t.at) (λ still. open_after_all still ts) (after_one open_at t.sign t.at h k.0)
+      (λ still all. after_all still ts all k.1)
 
   at_the_end : (toks : List Token) (m : Answer (List ℕ)) → Stands m → IfErr (m >>= none_open toks) (λ f. P f.at)
   at_the_end toks (Ok []) h = tt
@@ -70,7 +73,8 @@ valid_front : (bytes : List ℕ) (n : ℕ) → IsUtf8 (take (valid_len_up_to byt
 valid_front bytes zero = IsUtf8-nil
 valid_front bytes (suc n) = by_test (is_utf8 (take (suc n) bytes)) refl (valid_front bytes n)
   where
-    by_test : (b : Bool) → is_utf8 (take (suc n) bytes) ≡ b → IsUtf8 (take (valid_len_up_to bytes n) bytes) → IsUtf8 (take (if b then suc n else valid_len_up_to bytes n) bytes)
+    by_test : (b : Bool) → is_utf8 (take (suc n) bytes) ≡ b → IsUtf8 (take (valid_len_up_to bytes n) bytes)
+        → IsUtf8 (take (if b then suc n else valid_len_up_to bytes n) bytes)
     by_test true e h = IsUtf8-from_is_utf8 (take (suc n) bytes) e
     by_test false e h = h
 
@@ -82,8 +86,10 @@ text_to_fault bytes = valid_front bytes (length bytes)
 char_stands : (source : List ℕ) (p : ℕ → Bool) → IsUtf8 source → IfSome (first_place p (chars source)) (IsTextTo source)
 char_stands source p utf8 = by_test (ltb (position_or_len p (chars source)) (length (chars source)))
   where
-    by_test : (b : Bool) → IfSome (option_map (λ n. byte_count (take n (chars source))) (cond b (Some (position_or_len p (chars source))) None)) (IsTextTo source)
-    by_test true = front_is_text source utf8 (take (position_or_len p (chars source)) (chars source)) (drop (position_or_len p (chars source)) (chars source)) (sym (take-append-drop (position_or_len p (chars source)) (chars source)))
+    by_test : (b : Bool)
+        → IfSome (option_map (λ n. byte_count (take n (chars source))) (cond b (Some (position_or_len p (chars source))) None)) (IsTextTo source)
+    by_test true = front_is_text source utf8 (take (position_or_len p (chars source)) (chars source)) (drop (position_or_len p (chars source))
+        (chars source)) (sym (take-append-drop (position_or_len p (chars source)) (chars source)))
     by_test false = tt
 
 pub text_fault_stands : (source : List ℕ) → IfSome (text_fault source) (λ f. IsTextTo source f.at)
@@ -93,13 +99,16 @@ text_fault_stands source = by_test (is_utf8 source) refl
     mapped None h = tt
     mapped (Some n) h = h
 
-    by_test : (b : Bool) → is_utf8 source ≡ b → IfSome (if b then option_map (fault_at BadChar) (first_place is_refused (chars source)) else Some (fault_at NotUtf8 (utf8_valid_len source))) (λ f. IsTextTo source f.at)
+    by_test : (b : Bool) → is_utf8 source ≡ b
+        → IfSome (if b then option_map (fault_at BadChar) (first_place is_refused (chars source))
+            else Some (fault_at NotUtf8 (utf8_valid_len source))) (λ f. IsTextTo source f.at)
     by_test true e = mapped (first_place is_refused (chars source)) (char_stands source is_refused (IsUtf8-from_is_utf8 source e))
     by_test false e = (utf8_valid_len_le source, text_to_fault source)
 
 -- ---- the laws
 
-text_to_start : (source : List ℕ) (toks : List Token) → AllByRecursion (λ (t : Token). IsStart source t.at) toks → AllByRecursion (λ (t : Token). IsTextTo source t.at) toks
+text_to_start : (source : List ℕ) (toks : List Token) → AllByRecursion (λ (t : Token). IsStart source t.at) toks
+    → AllByRecursion (λ (t : Token). IsTextTo source t.at) toks
 text_to_start source [] h = tt
 text_to_start source (t ∷ ts) h = ((let k = h.0.0 in omega (arith, k), h.0.1), text_to_start source ts h.1)
 
@@ -110,7 +119,9 @@ before_fault source answer (cut {toks = toks} e t) =
     brace_stands (IsTextTo source) toks (text_to_start source toks (starts source (text_without_fault source e) t (ends_mark (chars source))))
 
 -- and what stands before a token
-pub before_tokens : (source : List ℕ) (answer : Answer (List Token)) → Lexes source answer → IfOk answer (λ toks. IsUtf8 source × AllByRecursion (λ (t : Token). IsStart source t.at) toks)
+pub before_tokens : (source : List ℕ) (answer : Answer (List Token)) → Lexes source answer
+    → IfOk answer (λ toks. IsUtf8 source × AllByRecursion (λ (t : Token). IsStart source t.at) toks)
 before_tokens source answer (refused e) = tt
 before_tokens source answer (cut {toks = toks} e t) =
-    same_tokens (λ ts. IsUtf8 source × AllByRecursion (λ (t : Token). IsStart source t.at) ts) toks (open_after_all [] toks) (text_without_fault source e, starts source (text_without_fault source e) t (ends_mark (chars source)))
+    same_tokens (λ ts. IsUtf8 source × AllByRecursion (λ (t : Token). IsStart source t.at) ts) toks (open_after_all [] toks)
+        (text_without_fault source e, starts source (text_without_fault source e) t (ends_mark (chars source)))

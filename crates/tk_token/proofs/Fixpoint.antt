@@ -20,12 +20,14 @@ module _ {A R : Type 0} (size : A → ℕ) (stuck : R) (step : (A → R) → A �
   enough zero m a h k = absurd (omega arith)
   enough (suc n) zero a h k = absurd (omega arith)
   enough (suc n) (suc m) a h k =
-      ap (λ (f : A → R). step f a) (smaller_alike size stuck (within size stuck step n) (within size stuck step m) a (λ b lt. enough n m b (omega arith) (omega arith)))
+      ap (λ (f : A → R). step f a) (smaller_alike size stuck (within size stuck step n) (within size stuck step m) a
+          (λ b lt. enough n m b (omega arith) (omega arith)))
 
   pub by_size_is : (a : A) → by_size size stuck step a ≡ step (smaller size stuck (by_size size stuck step) a) a
   unfolding within by_size
   by_size_is a =
-      ap (λ (f : A → R). step f a) (smaller_alike size stuck (within size stuck step (size a)) (by_size size stuck step) a (λ b lt. enough (size a) (suc (size b)) b (omega arith) (omega arith)))
+      ap (λ (f : A → R). step f a) (smaller_alike size stuck (within size stuck step (size a)) (by_size size stuck step) a
+          (λ b lt. enough (size a) (suc (size b)) b (omega arith) (omega arith)))
 
 module _ {A R : Type 0} (size : A → ℕ) (stuck : R) where
   asked_at : (t : Bool) (f : A → R) (b : A) → t ≡ true → ask t stuck f b ≡ f b
@@ -41,11 +43,13 @@ module _ {A R : Type 0} (size : A → ℕ) (stuck : R) (step : (A → R) → A �
   ask_keeps true f b h k = k
   ask_keeps false f b h k = h
 
-  within_keeps : ((a : A) → P a stuck) → ((f : A → R) → ((b : A) → P b (f b)) → (a : A) → P a (step f a)) → (n : ℕ) (a : A) → P a (within size stuck step n a)
+  within_keeps : ((a : A) → P a stuck) → ((f : A → R) → ((b : A) → P b (f b)) → (a : A) → P a (step f a)) → (n : ℕ) (a : A)
+      → P a (within size stuck step n a)
   unfolding within
   within_keeps base keep zero a = base a
   within_keeps base keep (suc n) a =
-      keep (smaller size stuck (within size stuck step n) a) (λ b. ask_keeps (nat_lt (size b) (size a)) (within size stuck step n) b (base b) (within_keeps base keep n b)) a
+      keep (smaller size stuck (within size stuck step n) a) (λ b. ask_keeps (nat_lt (size b) (size a)) (within size stuck step n) b (base b)
+          (within_keeps base keep n b)) a
 
   -- what each step keeps holds of the meaning
   pub kept : ((a : A) → P a stuck) → ((f : A → R) → ((b : A) → P b (f b)) → (a : A) → P a (step f a)) → (a : A) → P a (by_size size stuck step a)
@@ -66,6 +70,8 @@ module _ {A R : Type 0} (size : A → ℕ) (step : (A → R) → A → R) (asks 
   independent a = depth_alike (suc (size a)) a (omega arith)
 
 -- and it is one step over itself
-pub unbounded : {A R : Type 0} (size : A → ℕ) (stuck : R) (step : (A → R) → A → R) → AsksSmaller size step → (a : A) → by_size size stuck step a ≡ step (by_size size stuck step) a
+pub unbounded : {A R : Type 0} (size : A → ℕ) (stuck : R) (step : (A → R) → A → R) → AsksSmaller size step → (a : A)
+    → by_size size stuck step a ≡ step (by_size size stuck step) a
 unbounded size stuck step asks a =
-    by_size_is size stuck step a ∙ asks (smaller size stuck (by_size size stuck step) a) (by_size size stuck step) a (λ b lt. asked size stuck (by_size size stuck step) a b lt)
+    by_size_is size stuck step a ∙ asks (smaller size stuck (by_size size stuck step) a) (by_size size stuck step) a
+        (λ b lt. asked size stuck (by_size size stuck step) a b lt)

@@ -1,5 +1,6 @@
 -- What stands in front.
-use Rattle.std.proofs.Common.{◌≡◌, ℕ, ◌+◌, ◌-◌, ◌≤◌, Bool, true, false, not, cond, ltb, List, [], ◌∷◌, length, take, drop, Option, Some, None, refl, sym, ap, ◌∙◌, arith, one-add, length-drop}
+use Rattle.std.proofs.Common.{◌≡◌, ℕ, ◌+◌, ◌-◌, ◌≤◌, Bool, true, false, not, cond, ltb, List, [], ◌∷◌, length, take, drop, Option, Some, None, refl}
+use Rattle.std.proofs.Common.{sym, ap, ◌∙◌, arith, one-add, length-drop}
 use Rattle.std.specs.Prelude.{unwrap_or}
 use Rattle.std.specs.List.{prefix_len, position, position_or_len, list_all}
 use Rattle.std.proofs.lemmas.Bool.Decides.{nat_tests}
@@ -12,7 +13,8 @@ not_not false = refl
 
 prefix_not_not : (p : ℕ → Bool) (xs : List ℕ) → position_or_len (λ x. not (p x)) xs ≡ prefix_len p xs
 prefix_not_not p [] = refl
-prefix_not_not p (x ∷ xs) = ap (λ (b : Bool). cond b (1 + position_or_len (λ y. not (p y)) xs) 0) (not_not (p x)) ∙ ap (λ (n : ℕ). cond (p x) (1 + n) 0) (prefix_not_not p xs)
+prefix_not_not p (x ∷ xs) =
+    ap (λ (b : Bool). cond b (1 + position_or_len (λ y. not (p y)) xs) 0) (not_not (p x)) ∙ ap (λ (n : ℕ). cond (p x) (1 + n) 0) (prefix_not_not p xs)
 
 first_or_length : (n m : ℕ) → n ≤ m → unwrap_or (cond (ltb n m) (Some n) None) m ≡ n
 first_or_length n m h = by_test (ltb n m) refl
@@ -37,6 +39,7 @@ pub front_passes : (p : ℕ → Bool) (xs : List ℕ) → list_all p (take (pref
 front_passes p [] = refl
 front_passes p (x ∷ xs) = by_test (p x) refl (front_passes p xs)
   where
-    by_test : (b : Bool) → p x ≡ b → list_all p (take (prefix_len p xs) xs) ≡ true → list_all p (take (cond b (1 + prefix_len p xs) 0) (x ∷ xs)) ≡ true
+    by_test : (b : Bool) → p x ≡ b → list_all p (take (prefix_len p xs) xs) ≡ true
+        → list_all p (take (cond b (1 + prefix_len p xs) 0) (x ∷ xs)) ≡ true
     by_test true e h = rw (one-add, e) h
     by_test false e h = refl

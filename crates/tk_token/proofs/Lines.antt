@@ -1,5 +1,6 @@
 -- The line in which a text ends.
-use Rattle.std.proofs.Common.{◌≡◌, Some, None, ◌==◌, ◌≢◌, ℕ, zero, suc, subst, ◌+◌, ◌-◌, ◌≤◌, ◌<◌, true, false, not, List, length, take, drop, get_or, sym, ap, ◌∙◌, arith}
+use Rattle.std.proofs.Common.{◌≡◌, Some, None, ◌==◌, ◌≢◌, ℕ, zero, suc, subst, ◌+◌, ◌-◌, ◌≤◌, ◌<◌, true, false, not, List, length, take, drop, get_or}
+use Rattle.std.proofs.Common.{sym, ap, ◌∙◌, arith}
 use Rattle.std.specs.List.{after_last, suffix_len}
 use Rattle.std.specs.Str.{IsUtf8, IsCharBoundary}
 use Rattle.std.proofs.lemmas.Bool.Decides.{nat_tests}
@@ -15,7 +16,8 @@ no_line_end c h = grind (arith, nat_tests)
 a_line_end : (c : ℕ) → c ≡ 10 → not (is_line_end c) ≡ false
 a_line_end c h = grind (arith, nat_tests)
 
-line_start_is_a_boundary : (text : List ℕ) (start : ℕ) → IsUtf8 text → start ≤ length text → (0 < start → get_or text (start - 1) 0 ≡ 10) → IsCharBoundary text start
+line_start_is_a_boundary : (text : List ℕ) (start : ℕ) → IsUtf8 text → start ≤ length text → (0 < start → get_or text (start - 1) 0 ≡ 10)
+    → IsCharBoundary text start
 line_start_is_a_boundary text zero utf8 within before = IsCharBoundary-start text utf8
 line_start_is_a_boundary text (suc n) utf8 within before =
     let less : suc n - 1 ≡ n = omega arith in
@@ -28,7 +30,8 @@ module _ (text : List ℕ) (start : ℕ) (within : start ≤ length text) (since
   is_last_line : (0 < start → get_or text (start - 1) 0 ≡ 10) → take (length text - start) (drop start text) ≡ after_last is_line_end text
   is_last_line before =
       let n : suffix_len (λ c. not (is_line_end c)) text ≡ length text - start =
-      suffix_len_is (λ c. not (is_line_end c)) text start 0 within (λ k a b. no_line_end (get_or text k 0) (since k a b)) (λ p. a_line_end (get_or text (start - 1) 0) (before p)) in
+      suffix_len_is (λ c. not (is_line_end c)) text start 0 within (λ k a b. no_line_end (get_or text k 0) (since k a b))
+          (λ p. a_line_end (get_or text (start - 1) 0) (before p)) in
       let at : start ≡ length text - suffix_len (λ c. not (is_line_end c)) text = rw n (omega arith) in
       all_taken text start ∙ ap (λ (m : ℕ). drop m text) at
 
@@ -61,4 +64,5 @@ module _ (text : List ℕ) (at : ℕ) (last : IsLastByte (is_byte 10) text (Some
 
 -- a text without line ends is one line
 pub one_line : (text : List ℕ) → IsLastByte (is_byte 10) text None → text ≡ after_last is_line_end text
-one_line text none = sym (all_taken text 0) ∙ is_last_line text 0 (omega arith) (λ k le lt e. none k le lt (line_end_passes (get_or text k 0) e)) (λ p. absurd (omega arith))
+one_line text none = sym (all_taken text 0) ∙ is_last_line text 0 (omega arith) (λ k le lt e. none k le lt (line_end_passes (get_or text k 0) e))
+    (λ p. absurd (omega arith))

@@ -1,5 +1,6 @@
 -- Each word stands once among the words of tokens.
-use Rattle.std.proofs.Common.{◌≡◌, ℕ, zero, suc, ◌+◌, ◌<◌, Bool, true, false, ◌||◌, List, [], ◌∷◌, ◌++◌, length, Some, refl, sym, ap, ◌∙◌, arith, length-append, ◌⊎◌, inl, inr}
+use Rattle.std.proofs.Common.{◌≡◌, ℕ, zero, suc, ◌+◌, ◌<◌, Bool, true, false, ◌||◌, List, [], ◌∷◌, ◌++◌, length, Some, refl, sym, ap, ◌∙◌, arith}
+use Rattle.std.proofs.Common.{length-append, ◌⊎◌, inl, inr}
 use Rattle.std.specs.Prelude.{if◌then◌else◌}
 use Rattle.std.specs.List.{slice_get}
 use Rattle.std.specs.Str.{bytes_eq}
@@ -44,10 +45,12 @@ place_among_words words k lt = elim (eq-or-lt_of_le {n = k} {m = length words} (
 
 module _ (words : List (List ℕ)) (word : List ℕ) (once : EachOnce words) (none : has_word words word ≡ false) where
   new_differs : (m n : ℕ) → m < length words → n ≡ length words → slice_get (words ++ word ∷ []) m ≡ slice_get (words ++ word ∷ []) n → ⊥
-  new_differs m n lt is e = not_there words word m none (sym (at_older words word m lt) ∙ e ∙ ap (slice_get (words ++ word ∷ [])) is ∙ at_last words word)
+  new_differs m n lt is e =
+      not_there words word m none (sym (at_older words word m lt) ∙ e ∙ ap (slice_get (words ++ word ∷ [])) is ∙ at_last words word)
 
   one_more : EachOnce (words ++ word ∷ [])
-  one_more m n lm ln e = by_places (place_among_words words m (omega (arith, length-append words (word ∷ [])))) (place_among_words words n (omega (arith, length-append words (word ∷ []))))
+  one_more m n lm ln e = by_places (place_among_words words m (omega (arith, length-append words (word ∷ []))))
+      (place_among_words words n (omega (arith, length-append words (word ∷ []))))
     where
       by_places : Place words m → Place words n → m ≡ n
       by_places (inl a) (inl b) = once m n a b (sym (at_older words word m a) ∙ e ∙ at_older words word n b)

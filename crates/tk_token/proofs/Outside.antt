@@ -1,5 +1,6 @@
 -- The search outside braces, token by token.
-use Rattle.std.proofs.Common.{◌≡◌, ℕ, ◌+◌, ◌-◌, ◌<◌, Bool, true, false, List, [], ◌∷◌, ◌++◌, length, take, drop, Option, Some, None, refl, sym, ap, subst, ◌∙◌, arith, append_assoc, length-append}
+use Rattle.std.proofs.Common.{◌≡◌, ℕ, ◌+◌, ◌-◌, ◌<◌, Bool, true, false, List, [], ◌∷◌, ◌++◌, length, take, drop, Option, Some, None, refl, sym, ap}
+use Rattle.std.proofs.Common.{subst, ◌∙◌, arith, append_assoc, length-append}
 use Rattle.std.proofs.lemmas.List.{append-nil}
 use Rattle.std.proofs.Math.Seq.{take-append_seam, drop-append_seam}
 use Rattle.std.specs.List.{AllByRecursion}
@@ -18,23 +19,29 @@ none_in sought depth = refl
 
 module _ (sought : List Tok → Bool) (depth : ℕ) (t : Tok) (ts : List Tok) where
   -- the search at a token
-  pub search_step : first_outside_in sought depth (t ∷ ts) ≡ (if depth == 0 && sought (t ∷ ts) then Some (cut [] (t ∷ ts)) else (if depth == 0 && is_close t.kind then None else with_first t (first_outside_in sought (depth_after depth t.kind) ts)))
+  pub search_step : first_outside_in sought depth (t ∷ ts) ≡ (if depth == 0 && sought (t ∷ ts) then Some (cut [] (t ∷ ts))
+      else (if depth == 0 && is_close t.kind then None else with_first t (first_outside_in sought (depth_after depth t.kind) ts)))
   unfolding first_outside_in
   search_step = refl
 
   -- what is sought is in front
   pub found_here : (depth == 0 && sought (t ∷ ts)) ≡ true → first_outside_in sought depth (t ∷ ts) ≡ Some (cut [] (t ∷ ts))
-  found_here h = search_step ∙ ap (λ (b : Bool). if b then Some (cut [] (t ∷ ts)) else (if depth == 0 && is_close t.kind then None else with_first t (first_outside_in sought (depth_after depth t.kind) ts))) h
+  found_here h = search_step ∙ ap (λ (b : Bool). if b then Some (cut [] (t ∷ ts)) else (if depth == 0 && is_close t.kind then None else with_first t
+      (first_outside_in sought (depth_after depth t.kind) ts))) h
 
-  passed : (depth == 0 && sought (t ∷ ts)) ≡ false → first_outside_in sought depth (t ∷ ts) ≡ (if depth == 0 && is_close t.kind then None else with_first t (first_outside_in sought (depth_after depth t.kind) ts))
-  passed h = search_step ∙ ap (λ (b : Bool). if b then Some (cut [] (t ∷ ts)) else (if depth == 0 && is_close t.kind then None else with_first t (first_outside_in sought (depth_after depth t.kind) ts))) h
+  passed : (depth == 0 && sought (t ∷ ts)) ≡ false
+      → first_outside_in sought depth (t ∷ ts)
+          ≡ (if depth == 0 && is_close t.kind then None else with_first t (first_outside_in sought (depth_after depth t.kind) ts))
+  passed h = search_step ∙ ap (λ (b : Bool). if b then Some (cut [] (t ∷ ts)) else (if depth == 0 && is_close t.kind then None else with_first t
+      (first_outside_in sought (depth_after depth t.kind) ts))) h
 
   -- a `}` that closes nothing ends it
   pub closed_here : (depth == 0 && sought (t ∷ ts)) ≡ false → (depth == 0 && is_close t.kind) ≡ true → first_outside_in sought depth (t ∷ ts) ≡ None
   closed_here h k = passed h ∙ ap (λ (b : Bool). if b then None else with_first t (first_outside_in sought (depth_after depth t.kind) ts)) k
 
   -- it goes on behind any other token
-  pub goes_past : (depth == 0 && sought (t ∷ ts)) ≡ false → (depth == 0 && is_close t.kind) ≡ false → first_outside_in sought depth (t ∷ ts) ≡ with_first t (first_outside_in sought (depth_after depth t.kind) ts)
+  pub goes_past : (depth == 0 && sought (t ∷ ts)) ≡ false → (depth == 0 && is_close t.kind) ≡ false
+      → first_outside_in sought depth (t ∷ ts) ≡ with_first t (first_outside_in sought (depth_after depth t.kind) ts)
   goes_past h k = passed h ∙ ap (λ (b : Bool). if b then None else with_first t (first_outside_in sought (depth_after depth t.kind) ts)) k
 
 -- ---- a search so far
@@ -54,7 +61,8 @@ prefixed_more ts t None = refl
 prefixed_more ts t (Some c) = ap (λ (front : List Tok). (let o : Option Cut = Some (cut front c.rest) in o)) (sym (append_assoc ts (t ∷ []) c.front))
 
 -- The answer is that of the tokens that are left, with a front before it.
-module _ (sought : List Tok → Bool) (depth : ℕ) (front rest : List Tok) (answer : Option Cut) (told : answer ≡ prefixed front (first_outside_in sought depth rest)) where
+module _ (sought : List Tok → Bool) (depth : ℕ) (front rest : List Tok) (answer : Option Cut) (told : answer
+    ≡ prefixed front (first_outside_in sought depth rest)) where
   -- no token is left
   pub ends : rest ≡ [] → answer ≡ None
   ends none = told ∙ ap (λ (ts : List Tok). prefixed front (first_outside_in sought depth ts)) none ∙ ap (prefixed front) (none_in sought depth)
@@ -69,14 +77,16 @@ module _ (sought : List Tok → Bool) (depth : ℕ) (front rest : List Tok) (ans
 
     -- what is sought is in front
     pub finds : (depth == 0 && sought (t ∷ ts)) ≡ true → answer ≡ Some (cut front (t ∷ ts))
-    finds h = here ∙ ap (prefixed front) (found_here sought depth t ts h) ∙ ap (λ (f : List Tok). (let o : Option Cut = Some (cut f (t ∷ ts)) in o)) (append-nil front)
+    finds h = here ∙ ap (prefixed front) (found_here sought depth t ts h) ∙ ap (λ (f : List Tok). (let o : Option Cut = Some (cut f (t ∷ ts)) in o))
+        (append-nil front)
 
     -- the next token is a `}` that closes nothing
     pub closes : (depth == 0 && sought (t ∷ ts)) ≡ false → (depth == 0 && is_close t.kind) ≡ true → answer ≡ None
     closes h k = here ∙ ap (prefixed front) (closed_here sought depth t ts h k)
 
     -- the next token is any other one
-    pub goes : (depth == 0 && sought (t ∷ ts)) ≡ false → (depth == 0 && is_close t.kind) ≡ false → (new : List Tok) (deeper : ℕ) → new ≡ front ++ t ∷ [] → deeper ≡ depth_after depth t.kind → answer ≡ prefixed new (first_outside_in sought deeper ts)
+    pub goes : (depth == 0 && sought (t ∷ ts)) ≡ false → (depth == 0 && is_close t.kind) ≡ false → (new : List Tok) (deeper : ℕ)
+        → new ≡ front ++ t ∷ [] → deeper ≡ depth_after depth t.kind → answer ≡ prefixed new (first_outside_in sought deeper ts)
     goes h k new deeper pushed deep =
         here ∙ ap (prefixed front) (goes_past sought depth t ts h k)
         ∙ prefixed_more front t (first_outside_in sought (depth_after depth t.kind) ts)
@@ -101,9 +111,13 @@ module _ (sought : List Tok → Bool) where
   parts_in : (depth : ℕ) (ts : List Tok) → IfSome (first_outside_in sought depth ts) (Parts sought ts)
   unfolding first_outside_in
   parts_in depth [] = tt
-  parts_in depth (t ∷ ts) = by_tests (depth == 0 && sought (t ∷ ts)) (depth == 0 && is_close t.kind) refl (with_first_parts t ts (first_outside_in sought (depth_after depth t.kind) ts) (parts_in (depth_after depth t.kind) ts))
+  parts_in depth (t ∷ ts) = by_tests (depth == 0 && sought (t ∷ ts)) (depth == 0 && is_close t.kind) refl
+      (with_first_parts t ts (first_outside_in sought (depth_after depth t.kind) ts) (parts_in (depth_after depth t.kind) ts))
     where
-      by_tests : (a b : Bool) → (depth == 0 && sought (t ∷ ts)) ≡ a → IfSome (with_first t (first_outside_in sought (depth_after depth t.kind) ts)) (Parts sought (t ∷ ts)) → IfSome (if a then Some (cut [] (t ∷ ts)) else (if b then None else with_first t (first_outside_in sought (depth_after depth t.kind) ts))) (Parts sought (t ∷ ts))
+      by_tests : (a b : Bool) → (depth == 0 && sought (t ∷ ts)) ≡ a
+          → IfSome (with_first t (first_outside_in sought (depth_after depth t.kind) ts)) (Parts sought (t ∷ ts))
+          → IfSome (if a then Some (cut [] (t ∷ ts)) else (if b then None else with_first t (first_outside_in sought (depth_after depth t.kind) ts)))
+              (Parts sought (t ∷ ts))
       by_tests true b e h = (refl, and_right (depth == 0) (sought (t ∷ ts)) e)
       by_tests false true e h = tt
       by_tests false false e h = h
@@ -130,7 +144,8 @@ pub group_parts : (ts : List Tok) → IfSome (group_of ts) (PartsAt is_close ts)
 group_parts ts = past_parts is_close ts (first_outside (begins is_close) ts) (parts (begins is_close) ts)
 
 -- front and rest together are shorter than the whole
-shorter_of : (wanted : Kind → Bool) (ts : List Tok) (o : Option Cut) → IfSome o (PartsAt wanted ts) → IfSome o (λ c. length c.front + length c.rest < length ts)
+shorter_of : (wanted : Kind → Bool) (ts : List Tok) (o : Option Cut) → IfSome o (PartsAt wanted ts)
+    → IfSome o (λ c. length c.front + length c.rest < length ts)
 shorter_of wanted ts None h = tt
 shorter_of wanted ts (Some c) h = let e = ap length h.2 in let f = length-append c.front (h.0 ∷ c.rest) in omega arith
 
@@ -147,19 +162,23 @@ module _ (P : Tok → Type 0) where
   all_split [] rest h = (tt, h)
   all_split (t ∷ ts) rest h = let k = all_split ts rest h.1 in ((h.0, k.0), k.1)
 
-  parts_keep : (wanted : Kind → Bool) (ts : List Tok) (o : Option Cut) → AllByRecursion P ts → IfSome o (PartsAt wanted ts) → IfSome o (λ c. AllByRecursion P c.front × AllByRecursion P c.rest)
+  parts_keep : (wanted : Kind → Bool) (ts : List Tok) (o : Option Cut) → AllByRecursion P ts → IfSome o (PartsAt wanted ts)
+      → IfSome o (λ c. AllByRecursion P c.front × AllByRecursion P c.rest)
   parts_keep wanted ts None all h = tt
   parts_keep wanted ts (Some c) all h = let k = all_split c.front (h.0 ∷ c.rest) (subst (AllByRecursion P) (sym h.2) all) in (k.0, k.1.1)
 
-  outside_keep : (sought : List Tok → Bool) (ts : List Tok) (o : Option Cut) → AllByRecursion P ts → IfSome o (Parts sought ts) → IfSome o (λ c. AllByRecursion P c.front × AllByRecursion P c.rest)
+  outside_keep : (sought : List Tok → Bool) (ts : List Tok) (o : Option Cut) → AllByRecursion P ts → IfSome o (Parts sought ts)
+      → IfSome o (λ c. AllByRecursion P c.front × AllByRecursion P c.rest)
   outside_keep sought ts None all h = tt
   outside_keep sought ts (Some c) all h = all_split c.front c.rest (subst (AllByRecursion P) (sym h.0) all)
 
   -- it holds of the front and the rest
-  pub first_outside_keeps : (sought : List Tok → Bool) (ts : List Tok) → AllByRecursion P ts → IfSome (first_outside sought ts) (λ c. AllByRecursion P c.front × AllByRecursion P c.rest)
+  pub first_outside_keeps : (sought : List Tok → Bool) (ts : List Tok) → AllByRecursion P ts
+      → IfSome (first_outside sought ts) (λ c. AllByRecursion P c.front × AllByRecursion P c.rest)
   first_outside_keeps sought ts all = outside_keep sought ts (first_outside sought ts) all (parts sought ts)
 
-  pub before_char_keeps : (c : ℕ) (ts : List Tok) → AllByRecursion P ts → IfSome (before_char c ts) (λ c. AllByRecursion P c.front × AllByRecursion P c.rest)
+  pub before_char_keeps : (c : ℕ) (ts : List Tok) → AllByRecursion P ts
+      → IfSome (before_char c ts) (λ c. AllByRecursion P c.front × AllByRecursion P c.rest)
   before_char_keeps c ts all = parts_keep (is_char c) ts (before_char c ts) all (before_char_parts c ts)
 
   pub group_keeps : (ts : List Tok) → AllByRecursion P ts → IfSome (group_of ts) (λ c. AllByRecursion P c.front × AllByRecursion P c.rest)

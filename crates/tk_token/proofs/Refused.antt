@@ -1,5 +1,6 @@
 -- The characters that are refused, and bytes that are no text.
-use Rattle.std.proofs.Common.{◌≡◌, ℕ, ◌+◌, ◌-◌, ◌<◌, Bool, true, false, cond, ltb, List, [], ◌∷◌, ◌++◌, length, take, Some, None, refl, sym, ap, ◌∙◌, arith}
+use Rattle.std.proofs.Common.{◌≡◌, ℕ, ◌+◌, ◌-◌, ◌<◌, Bool, true, false, cond, ltb, List, [], ◌∷◌, ◌++◌, length, take, Some, None, refl, sym, ap, ◌∙◌}
+use Rattle.std.proofs.Common.{arith}
 use Rattle.std.specs.Prelude.{if◌then◌else◌}
 use Rattle.std.specs.Option.{option_map}
 use Rattle.std.specs.List.{position, position_or_len}
@@ -46,10 +47,12 @@ module _ (p : ℕ → Bool) where
       ap (option_map (λ k. byte_count (take k (front ++ c ∷ cs)))) here ∙ ap (λ (w : List ℕ). Some (byte_count w)) (take-append_seam front (c ∷ cs))
 
   -- and so many bytes
-  pub first_found : (text rest front cs : List ℕ) (c : ℕ) → IsUtf8 text → IsUtf8 rest → chars text ≡ front ++ chars rest → chars rest ≡ c ∷ cs → NonePass p front → p c ≡ true → Some (length text - length rest) ≡ first_place p (chars text)
+  pub first_found : (text rest front cs : List ℕ) (c : ℕ) → IsUtf8 text → IsUtf8 rest → chars text ≡ front ++ chars rest → chars rest ≡ c ∷ cs
+      → NonePass p front → p c ≡ true → Some (length text - length rest) ≡ first_place p (chars text)
   first_found text rest front cs c utf8 rest_utf8 is rest_is none e =
       let bytes : length text ≡ byte_count front + length rest =
-      sym (byte_count_is text utf8) ∙ ap byte_count is ∙ ap length (encodes-append front (chars rest)) ∙ length-append (encode_utf8_all front) (encode_utf8_all (chars rest)) ∙ ap (λ (n : ℕ). byte_count front + n) (byte_count_is rest rest_utf8) in
+      sym (byte_count_is text utf8) ∙ ap byte_count is ∙ ap length (encodes-append front (chars rest)) ∙ length-append (encode_utf8_all front)
+          (encode_utf8_all (chars rest)) ∙ ap (λ (n : ℕ). byte_count front + n) (byte_count_is rest rest_utf8) in
       let count : length text - length rest ≡ byte_count front = omega arith in
       ap (λ (n : ℕ). Some n) count ∙ sym (ap (first_place p) (is ∙ ap (λ (r : List ℕ). front ++ r) rest_is) ∙ found_is front cs c none e)
 
@@ -57,7 +60,8 @@ module _ (p : ℕ → Bool) where
   pub none_found : (text front : List ℕ) → chars text ≡ front ++ [] → NonePass p front → None ≡ first_place p (chars text)
   none_found text front is none =
       let all : chars text ≡ front = is ∙ append-nil front in
-      let nowhere : position p front ≡ None = ap (λ (n : ℕ). cond (ltb n (length front)) (Some n) None) (found_nowhere front none) ∙ same_end (length front) in
+      let nowhere : position p front ≡ None = ap (λ (n : ℕ). cond (ltb n (length front)) (Some n) None) (found_nowhere front none)
+              ∙ same_end (length front) in
       sym (ap (first_place p) all ∙ ap (option_map (λ k. byte_count (take k front))) nowhere)
 
 -- bytes that aren't text fail the test
@@ -78,6 +82,8 @@ text_fault_is bytes utf8 = rw (is_utf8-from_IsUtf8 bytes utf8) refl
 pub text_without_fault : (bytes : List ℕ) → text_fault bytes ≡ None → IsUtf8 bytes
 text_without_fault bytes none = by_test (is_utf8 bytes) refl none
   where
-    by_test : (b : Bool) → is_utf8 bytes ≡ b → (if b then option_map (fault_at BadChar) (first_place is_refused (chars bytes)) else Some (fault_at NotUtf8 (utf8_valid_len bytes))) ≡ None → IsUtf8 bytes
+    by_test : (b : Bool) → is_utf8 bytes ≡ b
+        → (if b then option_map (fault_at BadChar) (first_place is_refused (chars bytes)) else Some (fault_at NotUtf8 (utf8_valid_len bytes))) ≡ None
+        → IsUtf8 bytes
     by_test true e h = IsUtf8-from_is_utf8 bytes e
     by_test false e h = absurd cc

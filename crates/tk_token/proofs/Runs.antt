@@ -36,7 +36,8 @@ pub gap_in_comment : (cs : List ℕ) → gap_end true cs ≡ gap_end false (afte
 gap_in_comment [] = refl
 gap_in_comment (c ∷ cs) = by_test (is_line_end c) refl (gap_in_comment cs)
   where
-    by_test : (b : Bool) → is_line_end c ≡ b → gap_end true cs ≡ gap_end false (after_first is_line_end cs) → gap_end true (c ∷ cs) ≡ gap_end false (after_first is_line_end (c ∷ cs))
+    by_test : (b : Bool) → is_line_end c ≡ b → gap_end true cs ≡ gap_end false (after_first is_line_end cs)
+        → gap_end true (c ∷ cs) ≡ gap_end false (after_first is_line_end (c ∷ cs))
     by_test true e h = ap (λ (b : Bool). gap_end (not b) cs) e ∙ ap (gap_end false) (sym (first_here is_line_end c cs e))
     by_test false e h = ap (λ (b : Bool). gap_end (not b) cs) e ∙ h ∙ ap (gap_end false) (sym (first_later is_line_end c cs e))
 

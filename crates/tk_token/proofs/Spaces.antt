@@ -19,12 +19,14 @@ suffix_more : (ts : List Tok) (t : Tok) → suffix_len is_space_token (ts ++ t �
 suffix_more ts t = rw (reverse-append ts (t ∷ [])) refl
 
 taken_behind : (ts : List Tok) (t : Tok) (n k m : ℕ) → n ≡ length ts + 1 → m ≡ 1 + k → take (n - m) (ts ++ t ∷ []) ≡ take (length ts - k) ts
-taken_behind ts t n k m e f = let same : n - m ≡ length ts - k = omega (arith, e, f) in rw same (take-append-le (length ts - k) ts (t ∷ []) (omega arith))
+taken_behind ts t n k m e f =
+    let same : n - m ≡ length ts - k = omega (arith, e, f) in rw same (take-append-le (length ts - k) ts (t ∷ []) (omega arith))
 
 space_behind : (ts : List Tok) (t : Tok) → is_space t.kind ≡ true → before_spaces (ts ++ t ∷ []) ≡ before_spaces ts
 unfolding before_spaces
 space_behind ts t h =
-    taken_behind ts t (length (ts ++ t ∷ [])) (suffix_len is_space_token ts) (suffix_len is_space_token (ts ++ t ∷ [])) (length_push ts t) (suffix_more ts t ∙ rw h refl)
+    taken_behind ts t (length (ts ++ t ∷ [])) (suffix_len is_space_token ts) (suffix_len is_space_token (ts ++ t ∷ [])) (length_push ts t)
+        (suffix_more ts t ∙ rw h refl)
 
 other_behind : (ts : List Tok) (t : Tok) → is_space t.kind ≡ false → before_spaces (ts ++ t ∷ []) ≡ ts ++ t ∷ []
 unfolding before_spaces
@@ -33,7 +35,8 @@ other_behind ts t h =
     take_all (length (ts ++ t ∷ []) - suffix_len is_space_token (ts ++ t ∷ [])) (ts ++ t ∷ []) (omega (arith, none))
 
 -- a Space at the end is left out
-pub last_left_out : (toks front : List Tok) (last : Tok) → toks ≡ front ++ last ∷ [] → is_space last.kind ≡ true → before_spaces toks ≡ before_spaces front
+pub last_left_out : (toks front : List Tok) (last : Tok) → toks ≡ front ++ last ∷ [] → is_space last.kind ≡ true
+    → before_spaces toks ≡ before_spaces front
 last_left_out toks front last e h = rw e (space_behind front last h)
 
 -- another token at the end stays

@@ -20,9 +20,11 @@ module _ (text : List ℕ) where
   more_is c (Some cs) = ap Some (sym (append_assoc text (encode_utf8 c) (encode_utf8_all cs)))
 
   -- a character goes behind the text
-  pub one_more : (t : Tok) (ts : List Tok) (c : ℕ) → Some c ≡ character_of t.kind → behind text (characters_of (t ∷ ts)) ≡ behind (text ++ encode_utf8 c) (characters_of ts)
+  pub one_more : (t : Tok) (ts : List Tok) (c : ℕ) → Some c ≡ character_of t.kind
+      → behind text (characters_of (t ∷ ts)) ≡ behind (text ++ encode_utf8 c) (characters_of ts)
   unfolding characters_of
-  one_more t ts c is = ap (λ o. behind text (option_and_then (λ c. option_map (λ cs. c ∷ cs) (characters_of ts)) o)) (sym is) ∙ more_is c (characters_of ts)
+  one_more t ts c is =
+      ap (λ o. behind text (option_and_then (λ c. option_map (λ cs. c ∷ cs) (characters_of ts)) o)) (sym is) ∙ more_is c (characters_of ts)
 
   -- a token without a character leaves no text
   pub no_more : (t : Tok) (ts : List Tok) → None ≡ character_of t.kind → behind text (characters_of (t ∷ ts)) ≡ None

@@ -1,5 +1,6 @@
 -- Where tokens stand.
-use Rattle.std.proofs.Common.{◌≡◌, ℕ, zero, suc, ◌+◌, ◌-◌, ◌<◌, ◌≤◌, Bool, true, false, not, ◌&&◌, ◌==◌, List, [], ◌∷◌, ◌++◌, length, map, take, drop, refl, sym, ap, subst, ◌∙◌, arith, append_assoc}
+use Rattle.std.proofs.Common.{◌≡◌, ℕ, zero, suc, ◌+◌, ◌-◌, ◌<◌, ◌≤◌, Bool, true, false, not, ◌&&◌, ◌==◌, List, [], ◌∷◌, ◌++◌, length, map, take, drop}
+use Rattle.std.proofs.Common.{refl, sym, ap, subst, ◌∙◌, arith, append_assoc}
 use Rattle.std.specs.Prelude.{if◌then◌else◌}
 use Rattle.std.specs.Char.{encode_utf8}
 use Rattle.std.specs.List.{All, AllByRecursion, prefix_len, position_or_len, after_first}
@@ -13,7 +14,8 @@ use Rattle.tk_token.specs.declared.Kind.TheVariants.{Char, Word, Symbol, Open, C
 use Rattle.tk_token.specs.declared.Tok.{Tok}
 use Rattle.tk_token.specs.Places.{is_line_end}
 use Rattle.tk_token.specs.Token.{Sign, A_char, Opens, Closes, A_param, An_arg, Token, sign_of, token_of, IsNoArg}
-use Rattle.tk_token.specs.Cutting.{is_blank, is_indent, is_letter, after_comment, after_word, gap_end, byte_count, Tokens, ends, comment, gap, word, control_space, symbol, other}
+use Rattle.tk_token.specs.Cutting.{is_blank, is_indent, is_letter, after_comment, after_word, gap_end, byte_count, Tokens, ends, comment, gap, word}
+use Rattle.tk_token.specs.Cutting.{control_space, symbol, other}
 use Rattle.tk_token.specs.Faults.{after_mark}
 use Rattle.tk_token.proofs.Ascii.{front_and, back_and}
 
@@ -25,7 +27,8 @@ pub ends_all : (all : List ℕ) → Ends all all
 ends_all all = ([], refl)
 
 pub ends_drop : (all rest : List ℕ) (k : ℕ) → Ends all rest → Ends all (drop k rest)
-ends_drop all rest k (front, is) = (front ++ take k rest, is ∙ ap (λ (r : List ℕ). front ++ r) (sym (take-append-drop k rest)) ∙ sym (append_assoc front (take k rest) (drop k rest)))
+ends_drop all rest k (front, is) = (front ++ take k rest, is ∙ ap (λ (r : List ℕ). front ++ r) (sym (take-append-drop k rest))
+    ∙ sym (append_assoc front (take k rest) (drop k rest)))
 
 pub ends_tail : (all rest : List ℕ) (c : ℕ) → Ends all (c ∷ rest) → Ends all rest
 ends_tail all rest c e = ends_drop all (c ∷ rest) 1 e
@@ -33,9 +36,11 @@ ends_tail all rest c e = ends_drop all (c ∷ rest) 1 e
 pub ends_gap : (all : List ℕ) (in_comment : Bool) (rest : List ℕ) → Ends all rest → Ends all (gap_end in_comment rest)
 ends_gap all in_comment [] e = e
 ends_gap all true (c ∷ cs) e = ends_gap all (not (is_line_end c)) cs (ends_tail all cs c e)
-ends_gap all false (c ∷ cs) e = by_test (is_blank c) (c == 37) e (ends_gap all false cs (ends_tail all cs c e)) (ends_gap all true cs (ends_tail all cs c e))
+ends_gap all false (c ∷ cs) e =
+    by_test (is_blank c) (c == 37) e (ends_gap all false cs (ends_tail all cs c e)) (ends_gap all true cs (ends_tail all cs c e))
   where
-    by_test : (b s : Bool) → Ends all (c ∷ cs) → Ends all (gap_end false cs) → Ends all (gap_end true cs) → Ends all (if b then gap_end false cs else (if s then gap_end true cs else c ∷ cs))
+    by_test : (b s : Bool) → Ends all (c ∷ cs) → Ends all (gap_end false cs) → Ends all (gap_end true cs)
+        → Ends all (if b then gap_end false cs else (if s then gap_end true cs else c ∷ cs))
     by_test true s e f g = f
     by_test false true e f g = g
     by_test false false e f g = e
@@ -49,7 +54,8 @@ ends_mark (c ∷ cs) = by_test (c == 0xFEFF)
     by_test false = ends_all (c ∷ cs)
 
 pub ends_comment : (all rest : List ℕ) → Ends all rest → Ends all (after_comment rest)
-ends_comment all rest e = ends_drop all (after_first is_line_end rest) (prefix_len is_indent (after_first is_line_end rest)) (ends_drop all rest (position_or_len is_line_end rest + 1) e)
+ends_comment all rest e = ends_drop all (after_first is_line_end rest) (prefix_len is_indent (after_first is_line_end rest))
+    (ends_drop all rest (position_or_len is_line_end rest + 1) e)
 
 -- a character has a byte at least
 pub some_bytes : (c : ℕ) (cs : List ℕ) → 0 < byte_count (c ∷ cs)
@@ -57,7 +63,8 @@ some_bytes c cs = omega (arith, length-append (encode_utf8 c) (encode_utf8_all c
 
 scalars_front : (front rest : List ℕ) → all_scalars (front ++ rest) ≡ true → all_scalars front ≡ true
 scalars_front [] rest e = refl
-scalars_front (c ∷ cs) rest e = ap (λ (b : Bool). b && all_scalars cs) (front_and (scalar c) (all_scalars (cs ++ rest)) e) ∙ scalars_front cs rest (back_and (scalar c) (all_scalars (cs ++ rest)) e)
+scalars_front (c ∷ cs) rest e = ap (λ (b : Bool). b && all_scalars cs) (front_and (scalar c) (all_scalars (cs ++ rest)) e)
+    ∙ scalars_front cs rest (back_and (scalar c) (all_scalars (cs ++ rest)) e)
 
 -- a place in a text at which a character begins
 abbrev pub IsStart : List ℕ → ℕ → Type 0
@@ -73,7 +80,8 @@ module _ (text : List ℕ) (utf8 : IsUtf8 text) where
   -- some first characters of a text are text
   pub front_is_text : (front rest : List ℕ) → chars text ≡ front ++ rest → (byte_count front ≤ length text) × IsUtf8 (take (byte_count front) text)
   front_is_text front rest is =
-      let before : take (byte_count front) text ≡ encode_utf8_all front = ap (take (byte_count front)) (whole front rest is) ∙ take-append_seam (encode_utf8_all front) (encode_utf8_all rest) in
+      let before : take (byte_count front) text ≡ encode_utf8_all front = ap (take (byte_count front)) (whole front rest is)
+              ∙ take-append_seam (encode_utf8_all front) (encode_utf8_all rest) in
       let scalars : all_scalars front ≡ true = scalars_front front rest (ap all_scalars (sym is) ∙ scalars-chars text utf8) in
       (omega (arith, long front rest is), (front, (scalars, sym before)))
 
@@ -87,7 +95,9 @@ module _ (text : List ℕ) (utf8 : IsUtf8 text) where
   starts ends e = tt
   starts (comment {cs = cs} t) e = starts t (ends_comment (chars text) cs (ends_tail (chars text) cs 37 e))
   starts (gap {c = c} {cs = cs} b t) e = (start_of c cs e, starts t (ends_gap (chars text) false cs (ends_tail (chars text) cs c e)))
-  starts (word {c = c} {cs = cs} l t) e = (start_of 92 (c ∷ cs) e, starts t (ends_gap (chars text) false (after_word (c ∷ cs)) (ends_drop (chars text) (c ∷ cs) (prefix_len is_letter (c ∷ cs)) (ends_tail (chars text) (c ∷ cs) 92 e))))
+  starts (word {c = c} {cs = cs} l t) e =
+      (start_of 92 (c ∷ cs) e, starts t (ends_gap (chars text) false (after_word (c ∷ cs)) (ends_drop (chars text) (c ∷ cs)
+      (prefix_len is_letter (c ∷ cs)) (ends_tail (chars text) (c ∷ cs) 92 e))))
   starts (control_space {cs = cs} b t) e = (start_of 92 cs e, starts t (ends_gap (chars text) false cs (ends_tail (chars text) cs 92 e)))
   starts (symbol {c = c} {cs = cs} l b t) e = (start_of 92 (c ∷ cs) e, starts t (ends_tail (chars text) cs c (ends_tail (chars text) (c ∷ cs) 92 e)))
   starts (other {c = c} {cs = cs} b ne ne' t) e = (start_of c cs e, starts t (ends_tail (chars text) cs c e))
@@ -131,9 +141,11 @@ module _ (names : List (List ℕ)) (P : Token → Type 0) (Q : Tok → Type 0) (
   each_tok (t ∷ ts) h zero d lt = so t h.0
   each_tok (t ∷ ts) h (suc k) d lt = each_tok ts h.1 k d (omega arith)
 
-module _ (names : List (List ℕ)) (text : List ℕ) (toks : List Tok) (cut : Tokens (length text) (after_mark (chars text)) (map (token_of names) toks)) where
+module _ (names : List (List ℕ)) (text : List ℕ) (toks : List Tok) (cut : Tokens (length text) (after_mark (chars text)) (map (token_of names) toks))
+    where
   pub toks_start : IsUtf8 text → All (λ tok. IsStart text tok.at) toks
-  toks_start utf8 = each_tok names (λ t. IsStart text t.at) (λ tok. IsStart text tok.at) (λ tok h. h) toks (starts text utf8 cut (ends_mark (chars text)))
+  toks_start utf8 =
+      each_tok names (λ t. IsStart text t.at) (λ tok. IsStart text tok.at) (λ tok h. h) toks (starts text utf8 cut (ends_mark (chars text)))
 
   pub toks_plain : All (λ tok. IsNoArg tok.kind) toks
   toks_plain = each_tok names (λ t. IsPlain t.sign) (λ tok. IsNoArg tok.kind) (λ tok h. no_arg names tok.kind h) toks (all_plain cut)

@@ -24,10 +24,12 @@ line_found text i j utf8 ((front, is, none), at) =
     ∙ ap (λ (r : List ℕ). take i text ++ (encode_utf8 10 ++ r)) (encodes-chars (drop j text) tail_utf8)
     ∙ ap (λ (r : List ℕ). take i text ++ r) (sym at.split)
     ∙ take-append-drop i text in
-    let same : chars text ≡ front ++ 10 ∷ chars (drop j text) = encodes_same (chars text) (front ++ 10 ∷ chars (drop j text)) (encodes-chars text utf8 ∙ sym whole) in
+    let same : chars text ≡ front ++ 10 ∷ chars (drop j text) = encodes_same (chars text) (front ++ 10 ∷ chars (drop j text)) (encodes-chars text utf8
+            ∙ sym whole) in
     sym (ap (after_first is_line_end) same ∙ first_after is_line_end front (chars (drop j text)) 10 none refl)
 
-pub line_after : (text before after : List ℕ) → IsUtf8 text → SplitsAroundMatch (FindsChar 10) text before after → chars after ≡ after_first is_line_end (chars text)
+pub line_after : (text before after : List ℕ) → IsUtf8 text → SplitsAroundMatch (FindsChar 10) text before after
+    → chars after ≡ after_first is_line_end (chars text)
 line_after text before after utf8 (i, j, found, front, back, le, front_len, back_len) = ap chars back ∙ line_found text i j utf8 found
 
 pub line_missing : (text : List ℕ) → IsUtf8 text → FindsChar 10 text None → [] ≡ after_first is_line_end (chars text)
@@ -46,7 +48,8 @@ module _ (text after : List ℕ) (utf8 : IsUtf8 text) (after_utf8 : IsUtf8 after
       sym (encodes-chars text utf8)
       ∙ ap encode_utf8_all (sym (take-append-drop (prefix_len is_letter (chars text)) (chars text)))
       ∙ encodes-append (letters_of (chars text)) (after_word (chars text))
-      ∙ ap (λ (r : List ℕ). r ++ encode_utf8_all (after_word (chars text))) (encodes-IsAscii (letters_of (chars text)) (letters_are_ascii (chars text)))
+      ∙ ap (λ (r : List ℕ). r ++ encode_utf8_all (after_word (chars text))) (encodes-IsAscii (letters_of (chars text))
+          (letters_are_ascii (chars text)))
       ∙ ap (λ (r : List ℕ). letters_of (chars text) ++ encode_utf8_all r) (sym is)
       ∙ ap (λ (r : List ℕ). letters_of (chars text) ++ r) (encodes-chars after after_utf8)
 
@@ -54,12 +57,15 @@ module _ (text after : List ℕ) (utf8 : IsUtf8 text) (after_utf8 : IsUtf8 after
   letters_count = omega (arith, ap length letters_first ∙ length-append (letters_of (chars text)) after)
 
   pub letters_boundary : IsCharBoundary text (length text - length after)
-  letters_boundary = subst (λ (n : ℕ). IsCharBoundary text n) (sym letters_count) (IsCharBoundary-at_seam text (letters_of (chars text)) after letters_first after_utf8)
+  letters_boundary = subst (λ (n : ℕ). IsCharBoundary text n) (sym letters_count) (IsCharBoundary-at_seam text (letters_of (chars text)) after
+      letters_first after_utf8)
 
   pub letters_taken : take (length text - length after) text ≡ letters_of (chars text)
   letters_taken =
-      ap (λ (n : ℕ). take n text) letters_count ∙ ap (take (length (letters_of (chars text)))) letters_first ∙ take-append_seam (letters_of (chars text)) after
+      ap (λ (n : ℕ). take n text) letters_count ∙ ap (take (length (letters_of (chars text)))) letters_first
+          ∙ take-append_seam (letters_of (chars text)) after
 
   pub letters_dropped : drop (length text - length after) text ≡ after
   letters_dropped =
-      ap (λ (n : ℕ). drop n text) letters_count ∙ ap (drop (length (letters_of (chars text)))) letters_first ∙ drop-append_seam (letters_of (chars text)) after
+      ap (λ (n : ℕ). drop n text) letters_count ∙ ap (drop (length (letters_of (chars text)))) letters_first
+          ∙ drop-append_seam (letters_of (chars text)) after

@@ -1,5 +1,6 @@
 -- All characters have tokens, and each source lexes.
-use Rattle.std.proofs.Common.{◌≡◌, ◌≢◌, ℕ, zero, suc, ◌≤◌, Bool, true, false, ◌==◌, List, [], ◌∷◌, length, Option, Some, None, Err, refl, sym, subst, ap, arith}
+use Rattle.std.proofs.Common.{◌≡◌, ◌≢◌, ℕ, zero, suc, ◌≤◌, Bool, true, false, ◌==◌, List, [], ◌∷◌, length, Option, Some, None, Err, refl, sym, subst}
+use Rattle.std.proofs.Common.{ap, arith}
 use Rattle.std.specs.List.{prefix_len}
 use Rattle.std.specs.Str.{chars}
 use Rattle.std.proofs.lemmas.Bool.Decides.{nat_tests}
@@ -7,7 +8,8 @@ use Rattle.std.proofs.lemmas.List.{length-append}
 use Rattle.tk_token.specs.declared.Fault.{Fault}
 use Rattle.tk_token.specs.Answers.{Answer}
 use Rattle.tk_token.specs.Token.{Token}
-use Rattle.tk_token.specs.Cutting.{is_blank, is_letter, makes_space, after_gap, after_word, after_comment, Tokens, ends, comment, gap, word, control_space, symbol, other}
+use Rattle.tk_token.specs.Cutting.{is_blank, is_letter, makes_space, after_gap, after_word, after_comment, Tokens, ends, comment, gap, word}
+use Rattle.tk_token.specs.Cutting.{control_space, symbol, other}
 use Rattle.tk_token.specs.Faults.{after_mark, text_fault, balanced, Lexes, refused, cut}
 use Rattle.tk_token.proofs.Starts.{Ends, ends_all, ends_drop, ends_gap, ends_comment}
 
@@ -26,7 +28,8 @@ module _ (n : ℕ) where
       a_gap : length (after_gap cs) ≤ length cs
       a_gap = no_longer cs (after_gap cs) (ends_gap cs false cs (ends_all cs))
 
-      by_letter : (more : List ℕ) (b : Bool) → makes_space more ≡ false → ((rest : List ℕ) → length rest ≤ length more → Some_tokens n rest) → Some_tokens n (92 ∷ more)
+      by_letter : (more : List ℕ) (b : Bool) → makes_space more ≡ false → ((rest : List ℕ) → length rest ≤ length more → Some_tokens n rest)
+          → Some_tokens n (92 ∷ more)
       by_letter [] b e go = absurd cc
       by_letter (c ∷ more) b e go = by_test (is_letter c) refl
         where
@@ -35,7 +38,9 @@ module _ (n : ℕ) where
 
           by_test : (l : Bool) → is_letter c ≡ l → Some_tokens n (92 ∷ c ∷ more)
           by_test true f =
-              let t = go (after_gap (after_word (c ∷ more))) (no_longer (c ∷ more) (after_gap (after_word (c ∷ more))) (ends_gap (c ∷ more) false (after_word (c ∷ more)) (ends_drop (c ∷ more) (c ∷ more) (prefix_len is_letter (c ∷ more)) (ends_all (c ∷ more))))) in
+              let t = go (after_gap (after_word (c ∷ more))) (no_longer (c ∷ more) (after_gap (after_word (c ∷ more)))
+                      (ends_gap (c ∷ more) false (after_word (c ∷ more)) (ends_drop (c ∷ more) (c ∷ more) (prefix_len is_letter (c ∷ more))
+                      (ends_all (c ∷ more))))) in
               (_, word f t.1)
           by_test false f = let t = go more (omega arith) in (_, symbol f e t.1)
 
@@ -52,7 +57,8 @@ module _ (n : ℕ) where
           let same : c ≡ 37 = grind (arith, nat_tests) in
           let t = rest (after_comment cs) (no_longer cs (after_comment cs) (ends_comment cs cs (ends_all cs))) in
           subst (λ (d : ℕ). Some_tokens n (d ∷ cs)) (sym same) (_, comment t.1)
-      by_test false false true e f g = let same : c ≡ 92 = grind (arith, nat_tests) in subst (λ (d : ℕ). Some_tokens n (d ∷ cs)) (sym same) (control cs rest)
+      by_test false false true e f g =
+          let same : c ≡ 92 = grind (arith, nat_tests) in subst (λ (d : ℕ). Some_tokens n (d ∷ cs)) (sym same) (control cs rest)
       by_test false false false e f g =
           let t = rest cs (omega arith) in
           let no_comment : c ≢ 37 = grind (arith, nat_tests) in

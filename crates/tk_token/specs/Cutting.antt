@@ -1,8 +1,11 @@
--- How the characters of a source are cut into tokens (Knuth, TeX: The Program, sections 343 to 356, with fixed category codes; the rules for gaps and comments are this project's own).
-use Rattle.std.specs.Prelude.{◌≡◌, ◌≢◌, ℕ, ◌-◌, Bool, true, false, ◌&&◌, ◌||◌, not, ◌==◌, nat_le, if◌then◌else◌, List, [], ◌∷◌, length, drop}
+-- How the characters of a source are cut into tokens (Knuth, TeX: The Program, sections 343 to 356, with fixed category
+-- codes; the rules for gaps and comments are this project's own).
+use Rattle.std.specs.Prelude.{◌≡◌, ◌≢◌, ℕ, ◌-◌, Bool, true, false, ◌&&◌, ◌||◌, not, ◌==◌, nat_le, if◌then◌else◌, List}
+use Rattle.std.specs.Prelude.{[], ◌∷◌, length, drop}
 use Rattle.std.specs.List.{prefix_len, take_while, after_first}
 use Rattle.std.specs.Str.{encode_utf8_all}
-use Rattle.tk_characters.specs.Characters.{tab, line_feed, carriage_return, space, hash, percent, backslash, left_brace, right_brace}
+use Rattle.tk_characters.specs.Characters.{tab, line_feed, carriage_return, space, hash, percent, backslash, left_brace}
+use Rattle.tk_characters.specs.Characters.{right_brace}
 use Rattle.tk_token.specs.Token.{Sign, A_char, A_word, A_symbol, Opens, Closes, A_param, A_space, Token}
 use Rattle.tk_token.specs.Places.{is_line_end}
 
@@ -30,7 +33,8 @@ letters_of cs = take_while is_letter cs
 abbrev pub after_word : List ℕ → List ℕ
 after_word cs = after_while is_letter cs
 
--- what stands after a comment, of whose characters those behind its `%` are given: it has the end of its line, and the spaces and tabs after that
+-- what stands after a comment, of whose characters those behind its `%` are given: it has the end of its line, and the
+-- spaces and tabs after that
 abbrev pub after_comment : List ℕ → List ℕ
 after_comment cs = after_while is_indent (after_first is_line_end cs)
 
@@ -49,7 +53,8 @@ abbrev pub begins_line_feed : List ℕ → Bool
 begins_line_feed [] = false
 begins_line_feed (c ∷ cs) = c == line_feed
 
--- a `\` is the control space where this stands after it: a space, a tab, a line end, which is an LF or a CR with an LF directly after it, or nothing
+-- a `\` is the control space where this stands after it: a space, a tab, a line end, which is an LF or a CR with an LF
+-- directly after it, or nothing
 abbrev pub makes_space : List ℕ → Bool
 makes_space [] = true
 makes_space (c ∷ cs) = is_indent c || c == line_feed || (c == carriage_return && begins_line_feed cs)

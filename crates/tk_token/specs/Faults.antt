@@ -1,5 +1,6 @@
 -- The faults of a source, and what it is cut into where it has none.
-use Rattle.std.specs.Prelude.{◌≡◌, ℕ, Bool, ◌||◌, ◌&&◌, ◌==◌, nat_le, if◌then◌else◌, List, [], ◌∷◌, length, take, Option, Some, None, Ok, Err}
+use Rattle.std.specs.Prelude.{◌≡◌, ℕ, Bool, ◌||◌, ◌&&◌, ◌==◌, nat_le, if◌then◌else◌, List, [], ◌∷◌, length, take}
+use Rattle.std.specs.Prelude.{Option, Some, None, Ok, Err}
 use Rattle.std.specs.Option.{option_map}
 use Rattle.std.specs.List.{position}
 use Rattle.std.specs.Str.{chars, is_utf8}
@@ -23,16 +24,19 @@ fault_at code at = record { code = code; at = at }
 abbrev pub first_place : (ℕ → Bool) → List ℕ → Option ℕ
 first_place passes cs = option_map (λ k. byte_count (take k cs)) (position passes cs)
 
--- the fault of bytes as text: NotUtf8 after the longest front of them that is text, or else BadChar at the first character that is refused
+-- the fault of bytes as text: NotUtf8 after the longest front of them that is text, or else BadChar at the first
+-- character that is refused
 abbrev pub text_fault : List ℕ → Option Fault
-text_fault source = if is_utf8 source then option_map (fault_at BadChar) (first_place is_refused (chars source)) else Some (fault_at NotUtf8 (utf8_valid_len source))
+text_fault source = if is_utf8 source then option_map (fault_at BadChar) (first_place is_refused (chars source))
+    else Some (fault_at NotUtf8 (utf8_valid_len source))
 
 -- a byte order mark in front is passed over
 abbrev pub after_mark : List ℕ → List ℕ
 after_mark [] = []
 after_mark (c ∷ cs) = if c == 0xFEFF then cs else c ∷ cs
 
--- the places of the braces that are open after a token, the innermost first; at most 256 are open, and a `}` closes the innermost
+-- the places of the braces that are open after a token, the innermost first; at most 256 are open, and a `}` closes the
+-- innermost
 abbrev pub open_after : List ℕ → Sign → ℕ → Answer (List ℕ)
 open_after open_at Opens at = if length open_at == 256 then fault TooDeep at else Ok (at ∷ open_at)
 open_after [] Closes at = fault Brace at
@@ -56,4 +60,7 @@ balanced toks = open_after_all [] toks >>= none_open toks
 -- The tokens of a source, or its first fault: its fault as text, or else that among its braces.
 pub data Lexes (source : List ℕ) : Answer (List Token) → Type 0 where
   refused : {f : Fault} → text_fault source ≡ Some f → Lexes source (Err f)
-  cut : {toks : List Token} → text_fault source ≡ None → Tokens (length source) (after_mark (chars source)) toks → Lexes source (balanced toks)
+  cut : {toks : List Token}
+      → text_fault source ≡ None
+      → Tokens (length source) (after_mark (chars source)) toks
+      → Lexes source (balanced toks)

@@ -1,5 +1,6 @@
 -- Braces in lists of tokens, and what stands outside them.
-use Rattle.std.specs.Prelude.{ℕ, suc, ◌-◌, Bool, ◌&&◌, ◌==◌, if◌then◌else◌, List, [], ◌∷◌, drop, unwrap_or, Option, Some, None, option_map}
+use Rattle.std.specs.Prelude.{ℕ, suc, ◌-◌, Bool, ◌&&◌, ◌==◌, if◌then◌else◌, List, [], ◌∷◌, drop, unwrap_or, Option}
+use Rattle.std.specs.Prelude.{Some, None, option_map}
 use Rattle.std.specs.List.{list_all}
 use Rattle.tk_token.specs.declared.Kind.{Kind}
 use Rattle.tk_token.specs.declared.Kind.TheVariants.{Open, Close}
@@ -27,8 +28,8 @@ depth_after depth Close = depth - 1
 depth_after depth _ = depth
 
 -- The search outside braces, where so many braces are open: the tokens before the first place outside them at which the
--- test holds of the tokens from there on, and those from there on. There is no such place where the list ends before it,
--- or a `}` stands before it that closes none of these tokens.
+-- test holds of the tokens from there on, and those from there on. There is no such place where the list ends before
+-- it, or a `}` stands before it that closes none of these tokens.
 unfoldable pub first_outside_in : (List Tok → Bool) → ℕ → List Tok → Option Cut
 first_outside_in sought depth [] = None
 first_outside_in sought depth (t ∷ ts) =

@@ -15,7 +15,8 @@ abbrev pub Fails : {Y : Type 0} → Refusal → Answer Y → Type 0
 Fails (refusals.Fault f) answer = answer ≡ Err f
 Fails refusals.OutOfMemory answer = Unit {0}
 
--- what a call gave, seen by view, is the definition's value, and its fault is the definition's; want of memory says nothing
+-- what a call gave, seen by view, is the definition's value, and its fault is the definition's; want of memory says
+-- nothing
 abbrev pub Gives : {X Y : Type 0} → (X → Y) → Result X Refusal → Answer Y → Type 0
 Gives view (Ok x) answer = answer ≡ Ok (view x)
 Gives view (Err e) answer = Fails e answer

@@ -1,6 +1,7 @@
 //! The faults of a source.
 
-ghost use Rattle.std.specs.Prelude.{◌≡◌, ◌<◌, ◌≤◌, ◌∷◌, ◌++◌, [], ℕ, List, length, map, reverse, chars, None, Some, MatchResult, IfSome, OnOk};
+ghost use Rattle.std.specs.Prelude.{◌≡◌, ◌<◌, ◌≤◌, ◌∷◌, ◌++◌, [], ℕ, List, length, map, reverse, chars, None, Some};
+ghost use Rattle.std.specs.Prelude.{MatchResult, IfSome, OnOk};
 ghost use Rattle.tk_token.specs.Faults.{is_refused, first_place, text_fault, open_after, balanced};
 ghost use Rattle.tk_token.specs.Refusals.{Gives};
 ghost use Rattle.tk_token.specs.Token.{token_of, sign_of};
@@ -15,7 +16,8 @@ const MOST_OPEN: usize = 256;
 /// A source as text.
 pub(crate) fn text_of(source: &[u8]) -> Result<&str, Fault>
     requires { length source.now ≤ 16777216 }
-    ensures { MatchResult result (λ text. (text.now ≡ source.now) × (text_fault source.now ≡ None)) (λ fault. text_fault source.now ≡ Some fault) }
+    ensures { MatchResult result (λ text. (text.now ≡ source.now) × (text_fault source.now ≡ None))
+        (λ fault. text_fault source.now ≡ Some fault) }
 {
     let text = match str::from_utf8(source) {
         Ok(text) => text,
@@ -54,7 +56,8 @@ fn is_refused(character: char) -> bool
 
 /// Asks that braces balance, and that no more than 256 are open at once.
 pub(crate) fn balanced(alloc: Global, toks: &[Tok]) -> Result<(), Refusal>
-    ensures { (names : List (List ℕ)) → Gives (λ _. map (token_of names) toks.now) result (balanced (map (token_of names) toks.now)) }
+    ensures { (names : List (List ℕ))
+        → Gives (λ _. map (token_of names) toks.now) result (balanced (map (token_of names) toks.now)) }
 {
     let mut open_at = Vec::new(alloc);
     for tok in toks {

@@ -46,7 +46,8 @@ impl Sought {
 /// There is no such place where the list ends before it, or a `}` stands before it that closes none of these tokens.
 #[tactic(auto, using(crate::proofs::Corners::no_corner))]
 pub fn first_outside(list: &[Tok], sought: Sought) -> Option<(&[Tok], &[Tok])>
-    ensures { option_map (λ found. cut found.0.now found.1.now) result ≡ groups.first_outside (begins_sought sought) list.now }
+    ensures { option_map (λ found. cut found.0.now found.1.now) result
+        ≡ groups.first_outside (begins_sought sought) list.now }
 {
     match sought {
         Sought::Char(wanted) => search(list, Sought::Char(wanted)),
@@ -58,7 +59,8 @@ pub fn first_outside(list: &[Tok], sought: Sought) -> Option<(&[Tok], &[Tok])>
 /// The same by a walk over the tokens, which is compiled for each thing that is known to be sought.
 #[inline(always)]
 fn search(list: &[Tok], sought: Sought) -> Option<(&[Tok], &[Tok])>
-    ensures { option_map (λ found. cut found.0.now found.1.now) result ≡ groups.first_outside (begins_sought sought) list.now }
+    ensures { option_map (λ found. cut found.0.now found.1.now) result
+        ≡ groups.first_outside (begins_sought sought) list.now }
 {
     let mut depth = 0;
     let mut rest = list;
@@ -82,8 +84,8 @@ fn has_bar(list: &[Tok]) -> bool
     list.iter().any(|tok| tok.kind.is_char('|'))
 }
 
-/// The tokens before that character, at its first place outside braces, and those behind it: `a=b` is parted into `a` and
-/// `b` by `=`. There are none where `first_outside` has none.
+/// The tokens before that character, at its first place outside braces, and those behind it: `a=b` is parted into `a`
+/// and `b` by `=`. There are none where `first_outside` has none.
 pub fn before_char(list: &[Tok], wanted: char) -> Option<(&[Tok], &[Tok])>
     ensures { option_map (λ found. cut found.0.now found.1.now) result ≡ groups.before_char wanted list.now }
 {

@@ -35,13 +35,15 @@ pub fn each_source_lexes()
 /// The bytes before the fault of a source are UTF-8, and its place lies within the source, so that it has a line and a
 /// column.
 pub fn what_stands_before_a_fault_is_text()
-    ensures { (source : List ℕ) (fault : AFault) → Lexes source (Err fault) → (fault.at ≤ length source) × IsUtf8 (take fault.at source) }
+    ensures { (source : List ℕ) (fault : AFault) → Lexes source (Err fault) → (fault.at ≤ length source)
+        × IsUtf8 (take fault.at source) }
 {}
 
 /// A source that has no fault is UTF-8, and so are the bytes before each of its tokens, which thus has a line and a
 /// column.
 pub fn a_source_without_fault_is_text()
-    ensures { (source : List ℕ) (toks : List Token) → Lexes source (Ok toks) → IsUtf8 source × AllByRecursion (λ (t : Token). (t.at < length source) × IsUtf8 (take t.at source)) toks }
+    ensures { (source : List ℕ) (toks : List Token) → Lexes source (Ok toks)
+        → IsUtf8 source × AllByRecursion (λ (t : Token). (t.at < length source) × IsUtf8 (take t.at source)) toks }
 {}
 
 /// Each word stands once among the words of tokens, so that its number stands for it alone.
@@ -51,5 +53,7 @@ pub fn words_stand_once()
 
 /// What a search finds are the two parts of the list, and what was sought is in front of the second.
 pub fn a_search_parts_the_list()
-    ensures { (sought : List Tok → Bool) (toks : List Tok) → IfSome (first_outside sought toks) (λ found. (found.front ++ found.rest ≡ toks) × (sought found.rest ≡ true)) }
+    ensures { (sought : List Tok → Bool) (toks : List Tok)
+        → IfSome (first_outside sought toks) (λ found. (found.front ++ found.rest ≡ toks)
+        × (sought found.rest ≡ true)) }
 {}

@@ -1,8 +1,10 @@
 //! Cutting the characters of a source into tokens.
 
-ghost use Rattle.std.specs.Prelude.{◌∷◌, ◌≡◌, ◌≢◌, ℕ, ◌+◌, ◌<◌, ◌≤◌, List, [], length, map, chars, not, true, None, Some, Ok, Err, IfOk, IfErr, IfSome, OnOk, MatchOption, IsUtf8};
+ghost use Rattle.std.specs.Prelude.{◌∷◌, ◌≡◌, ◌≢◌, ℕ, ◌+◌, ◌<◌, ◌≤◌, List, [], length, map, chars, not, true, None};
+ghost use Rattle.std.specs.Prelude.{Some, Ok, Err, IfOk, IfErr, IfSome, OnOk, MatchOption, IsUtf8};
 ghost use Rattle.std.specs.List.{All, after_first};
-ghost use Rattle.tk_token.specs.Cutting.{is_indent, is_blank, is_letter, letters_of, after_word, after_comment, after_gap, begins_line_feed, makes_space, single, Tokens};
+ghost use Rattle.tk_token.specs.Cutting.{is_indent, is_blank, is_letter, letters_of, after_word, after_comment};
+ghost use Rattle.tk_token.specs.Cutting.{after_gap, begins_line_feed, makes_space, single, Tokens};
 ghost use Rattle.tk_token.specs.Faults.{after_mark, Lexes};
 ghost use Rattle.tk_token.specs.Pieces.{CutsOne};
 ghost use Rattle.tk_token.specs.Places.{is_line_end};
@@ -24,15 +26,15 @@ pub struct Lexed {
 /// Cuts a source into its tokens, in time linear in its length.
 ///
 /// A source is refused at its first fault. `NotUtf8` is asked of the whole source first, then `BadChar`; then, in
-/// reading order, `Brace` at a `}` too many and `TooDeep` at a 257th open `{`; then `Brace` at the innermost `{` that is
-/// left open.
+/// reading order, `Brace` at a `}` too many and `TooDeep` at a 257th open `{`; then `Brace` at the innermost `{` that
+/// is left open.
 pub fn lex(alloc: Global, source: &[u8]) -> Result<Lexed, Refusal>
     requires { length source.now ≤ 16777216 }
     ensures tokens { IfOk result (λ lexed. Lexes source.now (Ok (map (token_of lexed.names) lexed.toks.items))) }
     ensures fault { IfErr result (λ refusal. OnFault refusal (λ fault. Lexes source.now (Err fault))) }
 
-    // A word is the number of one of the names, which are the words of the tokens, each once, in the order in which they
-    // first stand there; no token is the place of an argument.
+    // A word is the number of one of the names, which are the words of the tokens, each once, in the order in which
+    // they first stand there; no token is the place of an argument.
     ensures words { IfOk result (λ lexed. All (λ tok. IsWordIn lexed.names tok.kind) lexed.toks.items) }
     ensures once { IfOk result (λ lexed. EachOnce lexed.names) }
     ensures listed { IfOk result (λ lexed. lexed.names ≡ words_of (map (token_of lexed.names) lexed.toks.items)) }
@@ -50,7 +52,8 @@ pub fn lex(alloc: Global, source: &[u8]) -> Result<Lexed, Refusal>
 #[tactic(auto, unfolding(crate::specs::Words::words_of))]
 fn cut(alloc: Global, text: &str) -> Result<Lexed, AllocError>
     requires short { length text.now ≤ 16777216 }
-    ensures tokens { IfOk result (λ lexed. Tokens (length text.now) (after_mark (chars text.now)) (map (token_of lexed.names) lexed.toks.items)) }
+    ensures tokens { IfOk result (λ lexed. Tokens (length text.now) (after_mark (chars text.now))
+        (map (token_of lexed.names) lexed.toks.items)) }
     ensures words { IfOk result (λ lexed. All (λ tok. IsWordIn lexed.names tok.kind) lexed.toks.items) }
     ensures once { IfOk result (λ lexed. EachOnce lexed.names) }
     ensures few { IfOk result (λ lexed. length lexed.names ≤ length text.now) }
@@ -103,7 +106,8 @@ fn next_kind<'s>(
 ) -> Result<(Kind, &'s str), AllocError>
     requires room { length names.old < 4294967295 }
     requires no_comment { first ≢ 37 }
-    ensures cuts { IfOk result (λ found. CutsOne (first ∷ chars tail.now) (sign_of names.new found.0) (chars found.1.now)) }
+    ensures cuts { IfOk result (λ found. CutsOne (first ∷ chars tail.now) (sign_of names.new found.0)
+        (chars found.1.now)) }
     ensures text { IfOk result (λ found. IsUtf8 found.1.now) }
     ensures within { IfOk result (λ found. length found.1.now ≤ length tail.now) }
     ensures word { IfOk result (λ found. IsWordIn names.new found.0) }
@@ -125,7 +129,8 @@ fn next_kind<'s>(
 #[tactic(auto, using(crate::proofs::Cuts::cuts))]
 fn next_control<'s>(names: &mut Names, tail: &'s str) -> Result<(Kind, &'s str), AllocError>
     requires room { length names.old < 4294967295 }
-    ensures cuts { IfOk result (λ found. CutsOne (92 ∷ chars tail.now) (sign_of names.new found.0) (chars found.1.now)) }
+    ensures cuts { IfOk result (λ found. CutsOne (92 ∷ chars tail.now) (sign_of names.new found.0)
+        (chars found.1.now)) }
     ensures text { IfOk result (λ found. IsUtf8 found.1.now) }
     ensures within { IfOk result (λ found. length found.1.now ≤ length tail.now) }
     ensures word { IfOk result (λ found. IsWordIn names.new found.0) }
@@ -146,7 +151,8 @@ fn next_control<'s>(names: &mut Names, tail: &'s str) -> Result<(Kind, &'s str),
 fn next_word<'s>(names: &mut Names, tail: &'s str) -> Result<(Kind, &'s str), AllocError>
     requires room { length names.old < 4294967295 }
     requires letter { (c : ℕ) × (cs : List ℕ) × (chars tail.now ≡ c ∷ cs) × (is_letter c ≡ true) }
-    ensures cuts { IfOk result (λ found. CutsOne (92 ∷ chars tail.now) (sign_of names.new found.0) (chars found.1.now)) }
+    ensures cuts { IfOk result (λ found. CutsOne (92 ∷ chars tail.now) (sign_of names.new found.0)
+        (chars found.1.now)) }
     ensures text { IfOk result (λ found. IsUtf8 found.1.now) }
     ensures within { IfOk result (λ found. length found.1.now ≤ length tail.now) }
     ensures word { IfOk result (λ found. IsWordIn names.new found.0) }

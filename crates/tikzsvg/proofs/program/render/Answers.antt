@@ -11,7 +11,8 @@ returns-in-Ok-clause-status g c =
     (run.world (g.H.Shelf.meaning c.document_of.new.shelf) (g.O.Sink.meaning c.deliver.new.out) (g.E.Sink.meaning c.deliver.new.err))
     c.as_slice.result.now
     c.deliver.result
-    (subst (λ (bytes : List ℕ). IsDocumentOf c.args.file.now c.args.budget (g.H.Shelf.meaning c.args.shelf.now) (g.H.Shelf.meaning c.document_of.new.shelf) bytes) (sym c.as_slice.ensures.value) c.in-Ok.ensures.document)
+    (subst (λ (bytes : List ℕ). IsDocumentOf c.args.file.now c.args.budget (g.H.Shelf.meaning c.args.shelf.now)
+        (g.H.Shelf.meaning c.document_of.new.shelf) bytes) (sym c.as_slice.ensures.value) c.in-Ok.ensures.document)
     c.deliver.ensures
 
 pub returns-in-Err-clause-status : goal.returns-in-Err-clause-status

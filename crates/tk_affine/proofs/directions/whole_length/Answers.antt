@@ -7,7 +7,8 @@ use Rattle.tk_affine.specs.Directions.{whole_length}
 use Rattle.tk_affine.proofs.Lengths.{root_most}
 use Rattle.tk_affine.proofs.directions.whole_length.Goals as goal
 
-root_is : (x y : ℤ) (a b r : ℕ) → a ≡ unsigned_abs x → b ≡ unsigned_abs y → r * r ≤ a * a + b * b → a * a + b * b < (r + 1) * (r + 1) → r ≡ whole_length x y
+root_is : (x y : ℤ) (a b r : ℕ) → a ≡ unsigned_abs x → b ≡ unsigned_abs y → r * r ≤ a * a + b * b → a * a + b * b < (r + 1) * (r + 1)
+    → r ≡ whole_length x y
 root_is x y a b r ea eb low high =
     let floor : IsFloorRoot (a * a + b * b) r = record { within = low; next = high } in
     only_root (unsigned_abs x * unsigned_abs x + unsigned_abs y * unsigned_abs y) r (rw (ea, eb) at floor)
@@ -21,6 +22,9 @@ returns-clause-value c =
 
 pub returns-clause-most : goal.returns-clause-most
 returns-clause-most c =
-    let x : c.from-x.result ≡ unsigned_abs c.args.x = c.from-x.ensures ∙ c.unsigned_abs.ensures.value ∙ ap unsigned_abs (to_z-of_z w64 c.args.x c.ranges.x) in
-    let y : c.from-y.result ≡ unsigned_abs c.args.y = c.from-y.ensures ∙ c.unsigned_abs-2.ensures.value ∙ ap unsigned_abs (to_z-of_z w64 c.args.y c.ranges.y) in
-    root_most c.from-x.result c.from-y.result c.isqrt.result (omega (arith, x, c.requires.x)) (omega (arith, y, c.requires.y)) c.isqrt.ensures.square_le
+    let x : c.from-x.result ≡ unsigned_abs c.args.x = c.from-x.ensures ∙ c.unsigned_abs.ensures.value
+            ∙ ap unsigned_abs (to_z-of_z w64 c.args.x c.ranges.x) in
+    let y : c.from-y.result ≡ unsigned_abs c.args.y = c.from-y.ensures ∙ c.unsigned_abs-2.ensures.value
+            ∙ ap unsigned_abs (to_z-of_z w64 c.args.y c.ranges.y) in
+    root_most c.from-x.result c.from-y.result c.isqrt.result (omega (arith, x, c.requires.x)) (omega (arith, y, c.requires.y))
+        c.isqrt.ensures.square_le

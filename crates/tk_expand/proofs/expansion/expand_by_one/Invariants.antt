@@ -6,7 +6,8 @@ use Rattle.tk_expand.proofs.expansion.expand_by_one.Given as goal
 
 abbrev pub invariant-loop-text : goal.invariant-loop-text
 invariant-loop-text l = record {
-  told : full l.fn.units.budget l.store.top.macros (stream l.fn.units.used (unread l.fn.list 0)) ≡ with_kept l.text.items (full l.units.budget l.store.top.macros (stream l.units.used l.input));
+  told : full l.fn.units.budget l.store.top.macros (stream l.fn.units.used (unread l.fn.list 0))
+      ≡ with_kept l.text.items (full l.units.budget l.store.top.macros (stream l.units.used l.input));
   end : l.input.end ≡ 0;
   budget : l.units.budget ≡ l.fn.units.budget;
   used : l.fn.units.used ≤ l.units.used;

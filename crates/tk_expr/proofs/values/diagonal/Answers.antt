@@ -5,4 +5,5 @@ use Rattle.tk_expr.proofs.Roots.{root_of}
 use Rattle.tk_expr.proofs.values.diagonal.Goals as goal
 
 pub returns : goal.returns
-returns c = to_z_pos w64 c.isqrt.result (omega (arith, c.isqrt.ensures.bound)) ∙ ap pos (root_of _ c.isqrt.result c.isqrt.ensures.square_le c.isqrt.ensures.next_square_gt)
+returns c = to_z_pos w64 c.isqrt.result (omega (arith, c.isqrt.ensures.bound))
+    ∙ ap pos (root_of _ c.isqrt.result c.isqrt.ensures.square_le c.isqrt.ensures.next_square_gt)

@@ -1,5 +1,6 @@
 use Rattle.std.proofs.Common.{◌≡◌, ◌∙◌, ℤ, pos, ◌*ℤ◌, arith}
-use Rattle.tk_geom.proofs.Forms.{told_three, times_fits, times_within, told_weighted, told_times, sum_fits, three_fit, four_fit, four_over, four_over_fits, same_over}
+use Rattle.tk_geom.proofs.Forms.{told_three, times_fits, times_within, told_weighted, told_times, sum_fits, three_fit, four_fit, four_over}
+use Rattle.tk_geom.proofs.Forms.{four_over_fits, same_over}
 use Rattle.tk_geom.proofs.segments.cubic.Goals as goal
 
 pub overflow_mul-product_of_three-2 : goal.overflow_mul-product_of_three-2

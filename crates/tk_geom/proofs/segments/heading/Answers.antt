@@ -1,5 +1,6 @@
 use Rattle.std.proofs.Common.{◌≡◌, ◌∙◌, ℤ, pos, ◌+ℤ◌, ◌-ℤ◌, ◌*ℤ◌, unsigned_abs, ◌≤◌, ◌^◌, arith}
-use Rattle.tk_geom.proofs.Forms.{told_two, told_weighted, told_times, heading_most, sum_fits, three_fit, three_over, three_over_fits, three_over_short, same_third}
+use Rattle.tk_geom.proofs.Forms.{told_two, told_weighted, told_times, heading_most, sum_fits, three_fit, three_over, three_over_fits}
+use Rattle.tk_geom.proofs.Forms.{three_over_short, same_third}
 use Rattle.tk_geom.proofs.segments.heading.Goals as goal
 
 most : (c : goal.After-weighted-third) → unsigned_abs (c.weighted-first.result +ℤ c.weighted-second.result +ℤ c.weighted-third.result) ≤ 2 ^ 72

@@ -18,5 +18,6 @@ loop-digit-preserved c =
     let more = value_more c.args.digits.now c.loop-digit.digit-index c.loop-digit-test.true d in
     record {
       value = omega (arith, more, c.loop-digit.invariant.value, c.from.ensures);
-      below = below_pow_more c.loop-digit.value c.loop-digit.digit-index c.from.result c.loop-digit.invariant.below (omega (arith, b, c.from.ensures));
+      below =
+          below_pow_more c.loop-digit.value c.loop-digit.digit-index c.from.result c.loop-digit.invariant.below (omega (arith, b, c.from.ensures));
     }

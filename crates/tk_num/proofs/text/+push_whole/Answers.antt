@@ -8,7 +8,8 @@ pub push-requires : goal.push-requires
 push-requires t c = let one = length-first c.args.whole c.if-whole-lt10.true in (lit< tt, omega (arith, one, c.requires.room))
 
 pub returns-then-whole-lt10-clause-text : goal.returns-then-whole-lt10-clause-text
-returns-then-whole-lt10-clause-text t c = c.push.ensures.items ∙ ap (λ ds. c.args.out.now.items ++ ds) (sym (decimal_digit c.args.whole c.if-whole-lt10.true))
+returns-then-whole-lt10-clause-text t c =
+    c.push.ensures.items ∙ ap (λ ds. c.args.out.now.items ++ ds) (sym (decimal_digit c.args.whole c.if-whole-lt10.true))
 
 pub returns-then-whole-lt10-clause-length : goal.returns-then-whole-lt10-clause-length
 returns-then-whole-lt10-clause-length t c = let one = length-first c.args.whole c.if-whole-lt10.true in omega (arith, one, c.push.ensures.len)

@@ -26,10 +26,12 @@ decreases-scope l = 4 * ((l.drawer.now.state.budget - l.drawer.now.state.units) 
 
 abbrev pub invariant-commands-loop-first : goal.invariant-commands-loop-first
 invariant-commands-loop-first l = record {
-  told : commands (given_to l.fn.drawer) (block (opener_of l.opener) (place_of_run l.fn.drawer l.fn.input)) ≡ commands (given_to l.fn.drawer) (block (opener_of l.opener) (place_of_run l.drawer l.input));
+  told : commands (given_to l.fn.drawer) (block (opener_of l.opener) (place_of_run l.fn.drawer l.fn.input))
+      ≡ commands (given_to l.fn.drawer) (block (opener_of l.opener) (place_of_run l.drawer l.input));
   sound : IsSound l.drawer;
   kept : Keeps l.fn.drawer.state l.drawer.state;
-  work : (l.drawer.state.budget - l.drawer.state.units) + length l.input.rest ≤ (l.fn.drawer.state.budget - l.fn.drawer.state.units) + length l.fn.input.rest;
+  work : (l.drawer.state.budget - l.drawer.state.units) + length l.input.rest ≤ (l.fn.drawer.state.budget - l.fn.drawer.state.units)
+      + length l.fn.input.rest;
 }
 
 abbrev pub decreases-commands-loop-first : goal.decreases-commands-loop-first

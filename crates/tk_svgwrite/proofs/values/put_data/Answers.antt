@@ -9,9 +9,12 @@ use Rattle.tk_svgwrite.proofs.values.put_data.Goals as goal
 
 pub loop-seg-preserved : goal.loop-seg-preserved
 loop-seg-preserved c = record {
-  text = flat_map_step piece_text c.args.segs.now c.loop-seg.seg-index c.seg-item.result _ _ _ c.loop-seg-test.true c.seg-item.is c.loop-seg.invariant.text c.in_ok-put_piece.ensures.text;
-  range = all_step PieceInRange c.args.segs.now c.loop-seg.seg-index c.seg-item.result c.loop-seg-test.true c.seg-item.is c.loop-seg.invariant.range c.in_ok-put_piece.ensures.range;
+  text = flat_map_step piece_text c.args.segs.now c.loop-seg.seg-index c.seg-item.result _ _ _ c.loop-seg-test.true c.seg-item.is
+      c.loop-seg.invariant.text c.in_ok-put_piece.ensures.text;
+  range = all_step PieceInRange c.args.segs.now c.loop-seg.seg-index c.seg-item.result c.loop-seg-test.true c.seg-item.is c.loop-seg.invariant.range
+      c.in_ok-put_piece.ensures.range;
 }
 
 pub returns-clause-range : goal.returns-clause-range
-returns-clause-range c = recursion_from_All PieceInRange c.args.segs.now (subst (All PieceInRange) (take_all c.loop-seg.seg-index c.args.segs.now (omega arith)) c.loop-seg.invariant.range)
+returns-clause-range c = recursion_from_All PieceInRange c.args.segs.now (subst (All PieceInRange) (take_all c.loop-seg.seg-index c.args.segs.now
+    (omega arith)) c.loop-seg.invariant.range)

@@ -10,8 +10,10 @@ use Rattle.tk_svgwrite.proofs.values.put_numbers.Goals as goal
 
 pub loop-number-preserved : goal.loop-number-preserved
 loop-number-preserved c = record {
-  text = flat_map_step spaced_text c.args.rest.now c.loop-number.number-index c.number-item.result _ _ _ c.loop-number-test.true c.number-item.is c.loop-number.invariant.text c.in_ok-put_next.ensures.text;
-  range = all_step IsScaled c.args.rest.now c.loop-number.number-index c.number-item.result c.loop-number-test.true c.number-item.is c.loop-number.invariant.range c.in_ok-put_next.ensures.range;
+  text = flat_map_step spaced_text c.args.rest.now c.loop-number.number-index c.number-item.result _ _ _ c.loop-number-test.true c.number-item.is
+      c.loop-number.invariant.text c.in_ok-put_next.ensures.text;
+  range = all_step IsScaled c.args.rest.now c.loop-number.number-index c.number-item.result c.loop-number-test.true c.number-item.is
+      c.loop-number.invariant.range c.in_ok-put_next.ensures.range;
 }
 
 pub returns-clause-text : goal.returns-clause-text
@@ -24,4 +26,5 @@ returns-clause-text c =
 
 pub returns-clause-range : goal.returns-clause-range
 returns-clause-range c =
-    (c.in_ok-put_scaled.ensures.range, recursion_from_All IsScaled c.args.rest.now (subst (All IsScaled) (take_all c.loop-number.number-index c.args.rest.now (omega arith)) c.loop-number.invariant.range))
+    (c.in_ok-put_scaled.ensures.range, recursion_from_All IsScaled c.args.rest.now (subst (All IsScaled) (take_all c.loop-number.number-index
+        c.args.rest.now (omega arith)) c.loop-number.invariant.range))

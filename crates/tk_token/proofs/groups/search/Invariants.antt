@@ -7,7 +7,8 @@ use Rattle.tk_token.proofs.groups.search.Given as goal
 
 abbrev pub invariant-loop-first : goal.invariant-loop-first
 invariant-loop-first l = record {
-  told : (front : List Tok) × (l.list ≡ front ++ l.rest) × (first_outside (begins_sought l.sought) l.list ≡ prefixed front (first_outside_in (begins_sought l.sought) l.depth l.rest));
+  told : (front : List Tok) × (l.list ≡ front ++ l.rest) × (first_outside (begins_sought l.sought) l.list
+      ≡ prefixed front (first_outside_in (begins_sought l.sought) l.depth l.rest));
   within : l.depth + length l.rest ≤ length l.list;
 }
 

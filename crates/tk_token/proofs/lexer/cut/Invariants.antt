@@ -14,7 +14,8 @@ invariant-loop-first l = record {
   once : EachOnce l.names;
   listed : l.names ≡ words_of (map (token_of l.names) l.toks.items);
   words : AllByRecursion (λ t. IsWordIn l.names t.kind) l.toks.items;
-  goes_on : (ts : List Token) → Tokens (length l.text) (chars l.rest) ts → Tokens (length l.text) (after_mark (chars l.text)) (map (token_of l.names) l.toks.items ++ ts);
+  goes_on : (ts : List Token) → Tokens (length l.text) (chars l.rest) ts
+      → Tokens (length l.text) (after_mark (chars l.text)) (map (token_of l.names) l.toks.items ++ ts);
 }
 
 abbrev pub decreases-loop-first : goal.decreases-loop-first

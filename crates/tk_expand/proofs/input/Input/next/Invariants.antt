@@ -5,7 +5,8 @@ use Rattle.tk_expand.proofs.input.Input.next.Given as goal
 
 abbrev pub invariant-loop-tok : goal.invariant-loop-tok
 invariant-loop-tok l = record {
-  told : next l.fn.units.budget l.store.top.macros (stream l.fn.units.used l.fn.self) ≡ next l.units.budget l.store.top.macros (stream l.units.used l.self);
+  told : next l.fn.units.budget l.store.top.macros (stream l.fn.units.used l.fn.self)
+      ≡ next l.units.budget l.store.top.macros (stream l.units.used l.self);
   end : l.self.end ≡ l.fn.self.end;
   budget : l.units.budget ≡ l.fn.units.budget;
   used : l.fn.units.used ≤ l.units.used;

@@ -9,7 +9,8 @@ returns-in-Err-clause-gives c =
     let at = piece_at self.m c.args.centre.now c.args.a c.args.b self.rx self.ry c.args.count in
     let found : at c.loop-i.i ≡ Err c.in-Err.fault = cc
     (c.piece.ensures, c.in-Err.is, c.control_ratio-k.ensures.value, c.angle_at-from.ensures, c.angle_at-to.ensures) in
-    fault_told _ _ _ _ c.in-Err.fault c.loop-i.invariant.told (faulty_piece_ends_all at c.loop-i.i c.args.count c.in-Err.fault c.loop-i-test.true found)
+    fault_told _ _ _ _ c.in-Err.fault c.loop-i.invariant.told (faulty_piece_ends_all at c.loop-i.i c.args.count c.in-Err.fault
+        c.loop-i-test.true found)
 
 pub loop-i-preserved : goal.loop-i-preserved
 loop-i-preserved c =

@@ -8,5 +8,6 @@ pub returns-in-Some : goal.returns-in-Some
 returns-in-Some c is =
     rw (← c.self.view_is) (
       c.in-Some.entry.now.value,
-      ap (map.get c.self.inside.store.top.keys) (sym c.paint_path.ensures) ∙ sym c.in-Some.ensures ∙ ap (λ (e : Entry). Some e) (c.is_unchanged.ensures is),
+      ap (map.get c.self.inside.store.top.keys) (sym c.paint_path.ensures) ∙ sym c.in-Some.ensures
+          ∙ ap (λ (e : Entry). Some e) (c.is_unchanged.ensures is),
     )

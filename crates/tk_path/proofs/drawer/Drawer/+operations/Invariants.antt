@@ -15,7 +15,8 @@ decreases-path_group l = 4 * ((l.self.now.state.budget - l.self.now.state.units)
 
 abbrev pub invariant-operations-loop-first : goal.invariant-operations-loop-first
 invariant-operations-loop-first l = record {
-  told : operations (given_to l.fn.self) (stretch l.opener (configuration_of l.fn.self l.fn.path l.fn.input)) ≡ operations (given_to l.fn.self) (stretch l.opener (configuration_of l.self l.path l.input));
+  told : operations (given_to l.fn.self) (stretch l.opener (configuration_of l.fn.self l.fn.path l.fn.input))
+      ≡ operations (given_to l.fn.self) (stretch l.opener (configuration_of l.self l.path l.input));
   kept : KeepsDrawn l.fn.self l.self;
   work : (l.self.state.budget - l.self.state.units) + length l.input.rest ≤ (l.fn.self.state.budget - l.fn.self.state.units) + length l.fn.input.rest;
 }

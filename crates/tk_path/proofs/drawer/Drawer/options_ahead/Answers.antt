@@ -16,5 +16,6 @@ returns-clause-gives c ev is path =
     let given = given_of ev c.args.self.now.state in
     subst (λ (m : Answer Configuration). Gives (λ _. configuration_of c.options_from.new.self path c.options_from.new.input) c.options_from.result m)
     (sym (ahead_goes given (configuration_of c.args.self.now path c.args.input.now) first (c.in_ok-first.ensures.gives ev path)))
-    (subst (λ (g : Given). Gives (λ _. configuration_of c.options_from.new.self path c.options_from.new.input) c.options_from.result (options_from g first))
+    (subst (λ (g : Given). Gives (λ _. configuration_of c.options_from.new.self path c.options_from.new.input) c.options_from.result
+        (options_from g first))
     (ap (λ (d : Drawer). given_of ev d.state) c.in_ok-first.ensures.pays) (c.options_from.ensures.gives ev is path))
