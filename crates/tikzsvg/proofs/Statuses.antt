@@ -138,7 +138,7 @@ module _ (law : OneOutcome) (file : List ℕ) (budget : ℕ) (b a : World) where
   completes_at : {s : Status} → Ends file budget b a s → Completes file budget b a (number s)
   completes_at (done r) source drawing told short is writes =
       let this = ok_same r.drawing drawing (Ok drawing) (sym (drawn_is source r.drawn.source (Ok r.drawing) (Ok drawing) told r.drawn.read
-              r.drawn.is is)) refl in
+      r.drawn.is is)) refl in
       inl (refl, subst (λ (d : Drawing). WritesDocument d b.out a.out) this r.written)
   completes_at (fault r) source drawing told short is writes =
       absurd (ok_is_no_err drawing r.fault (Ok drawing) refl (sym (drawn_is source r.source (Err r.fault) (Ok drawing) told r.broken.read
@@ -155,8 +155,11 @@ module _ (law : OneOutcome) (file : List ℕ) (budget : ℕ) (b a : World) where
   names_at (fault r) source f told short is =
       let same = same_source b.shelf a.shelf file source r.source told r.broken.read in
       let this = err_same r.fault f (Err f) (sym (drawn_is source r.source (Err r.fault) (Err f) told r.broken.read r.broken.is is)) refl in
-      inl (refl, subst (λ (bytes : List ℕ). Says b.err a.err (fault_line file bytes f)) same
-          (subst (λ (g : Fault). Says b.err a.err (fault_line file r.source g)) this r.says))
+      inl (
+        refl,
+        subst (λ (bytes : List ℕ). Says b.err a.err (fault_line file bytes f)) same
+            (subst (λ (g : Fault). Says b.err a.err (fault_line file r.source g)) this r.says),
+      )
   names_at (too_long r) source f told short is =
       absurd (let long : 16777216 < length source = long_source b.shelf a.shelf file source told r.long in omega arith)
   names_at (read_fault r) source f told short is = absurd (told.sound r.cause)

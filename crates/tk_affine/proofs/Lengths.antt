@@ -42,7 +42,7 @@ part_is : (z : ℤ) (n : ℕ) → 1 ≤ n → unsigned_abs z ≤ n → n ≤ 219
 part_is z n some le most =
     let small = part_small z n some le in
     ap (λ y. to_z w64 (of_z w64 (int_div y (to_z w64 n)))) (wrapped_product (pos 65536) z 65536 2199023255552 (omega arith) (omega arith)
-        (omega arith) (omega arith) (omega arith))
+    (omega arith) (omega arith) (omega arith))
     ∙ ap (λ y. to_z w64 (of_z w64 (int_div (pos 65536 *ℤ z) y))) (to_z_pos w64 n (omega arith))
     ∙ to_z-of_z w64 (int_div (pos 65536 *ℤ z) (pos n)) (fits_signed_from_abs w64 (int_div (pos 65536 *ℤ z) (pos n)) (omega (arith, small)))
 

@@ -39,7 +39,7 @@ wide_product a b la lb =
     ap (λ z. to_z w128 (of_z w128 (z *ℤ to_z w128 (of_z w128 b)))) (to_z-of_z w128 a (fits_signed_from_abs w128 a (omega arith)))
     ∙ ap (λ z. to_z w128 (of_z w128 (a *ℤ z))) (to_z-of_z w128 b (fits_signed_from_abs w128 b (omega arith)))
     ∙ to_z-of_z w128 (a *ℤ b) (let small = product_bound a b 1073741823 4611686009837453316 la lb in fits_signed_from_abs w128 (a *ℤ b)
-        (omega (arith, small)))
+    (omega (arith, small)))
 
 share_small : (a b d : ℤ) → unsigned_abs a ≤ 1073741823 → unsigned_abs b ≤ 4611686009837453316 → unsigned_abs (int_div (a *ℤ b) d) ≤ 2 ^ 92
 share_small a b d la lb =
@@ -49,7 +49,7 @@ share_small a b d la lb =
 -- what is computed of r*n/d, and its bound
 pub wide_share : (a b d : ℤ) → unsigned_abs a ≤ 1073741823 → unsigned_abs b ≤ 4611686009837453316 → unsigned_abs d ≤ 2 ^ 63
     → to_z w128 (of_z w128 (int_div (to_z w128 (of_z w128 (to_z w128 (of_z w128 a) *ℤ to_z w128 (of_z w128 b)))) (to_z w128 (of_z w128 d))))
-        ≡ int_div (a *ℤ b) d
+    ≡ int_div (a *ℤ b) d
 wide_share a b d la lb ld =
     ap (λ z. to_z w128 (of_z w128 (int_div z (to_z w128 (of_z w128 d))))) (wide_product a b la lb)
     ∙ ap (λ z. to_z w128 (of_z w128 (int_div (a *ℤ b) z))) (to_z-of_z w128 d (fits_signed_from_abs w128 d (omega arith)))

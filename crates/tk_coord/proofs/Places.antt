@@ -81,7 +81,7 @@ module _ (P : ℕ → Type 0) where
       lone_fine : (text : List Tok) → Within P text → Fine P (lone_point ev font look matrix at (trimmed text))
       lone_fine text h =
           fine_then (paired ev font at (trimmed text)) _ (paired_fine (trimmed text) (trimmed_within text h))
-              (λ numbers. by_fine (trimmed text) numbers)
+          (λ numbers. by_fine (trimmed text) numbers)
 
       sign_fine : (point : List Tok → Answer Point)
           → ((ts : List Tok) → Within P ts → Fine P (point ts))

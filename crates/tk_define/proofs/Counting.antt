@@ -59,7 +59,7 @@ module _ (count : ℕ) (list : Unread) (answer : Answer (Read ℕ)) (told : answ
     chosen : (b : Bool) → is_param tok.kind ≡ b → answer ≡ by_kind count (8 - count) list b behind
     chosen b is =
         next_turn ∙ then_is (next_token MacroSyntax list) (λ next. by_kind count (8 - count) list (is_param next.value.kind) next.list)
-            (read tok behind) taken
+        (read tok behind) taken
         ∙ ap (λ (b : Bool). by_kind count (8 - count) list b behind) is
 
     module _ (param : tok.kind ≡ Param) where
@@ -75,7 +75,7 @@ module _ (count : ℕ) (list : Unread) (answer : Answer (Read ℕ)) (told : answ
           let one : suc count ≡ count + 1 = omega arith in
           let fewer : 8 - count ≡ 9 - (count + 1) = omega arith in
           chosen true (ap is_param param) ∙ then_is (after_token MacroSyntax (is_char (digit (count + 1))) behind) (λ rest. parameters (suc count)
-              (8 - count) rest) rest is
+          (8 - count) rest) rest is
           ∙ ap (λ (n : ℕ). parameters n (8 - count) rest) one ∙ ap (λ (n : ℕ). parameters (count + 1) n rest) fewer
 
     opened : (b : Bool) → is_open tok.kind ≡ b → after_token MacroSyntax is_open list ≡ (if b then Ok behind else fault MacroSyntax tok.at)
@@ -92,7 +92,7 @@ module _ (count : ℕ) (list : Unread) (answer : Answer (Read ℕ)) (told : answ
     pub misfits : (tok.kind ≡ Param → ⊥) → (tok.kind ≡ Open → ⊥) → answer ≡ fault MacroSyntax tok.at
     misfits not_param not_open =
         chosen false (other_kinds_are_neither tok.kind not_param not_open).0 ∙ ap (λ (m : Answer Unread). m >>= λ inside. Ok (read count inside))
-            (opened false (other_kinds_are_neither tok.kind not_param not_open).1)
+        (opened false (other_kinds_are_neither tok.kind not_param not_open).1)
 
 -- nine parameters: the `{` of the body has to follow
 pub at_nine : (count : ℕ) (list : Unread) (answer : Answer (Read ℕ)) → answer ≡ parameters count (9 - count) list → 9 ≤ count → count ≤ 9
@@ -112,9 +112,9 @@ pub parameters_counted : (list count_at behind_count bracket_at behind : Unread)
 unfolding bracketed_count
 parameters_counted list count_at behind_count bracket_at behind count answer e known f closed is =
     ap (λ (l : Unread). token_value MacroSyntax digit_of l >>= of_count) (sym e) ∙ then_is (token_value MacroSyntax digit_of count_at) of_count
-        (read count behind_count) known
+    (read count behind_count) known
     ∙ ap (λ (l : Unread). after_token MacroSyntax (is_char right_bracket) l >>= of_bracket count) (sym f)
-        ∙ then_is (after_token MacroSyntax (is_char right_bracket) bracket_at) (of_bracket count) behind closed
+    ∙ then_is (after_token MacroSyntax (is_char right_bracket) bracket_at) (of_bracket count) behind closed
     ∙ ap (λ (m : Answer Unread). m >>= λ inside. Ok (read count inside)) is
   where
     of_bracket : ℕ → Unread → Answer (Read ℕ)

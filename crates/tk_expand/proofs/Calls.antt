@@ -40,7 +40,7 @@ module _ (at n : ℕ) (texts : List (List Tok)) (rest : List Tok) (answer : Answ
     unfolding arguments_of
     one_missing e h =
         fails_as e answer _ (told ∙ ap (λ (n : ℕ). with_taken texts (arguments_of at n rest)) is) (fails_then e (arguments_of at (suc more) rest) _
-            (fails_then e (or_fault (argument_of rest) MacroArg at) _ h))
+        (fails_then e (or_fault (argument_of rest) MacroArg at) _ h))
 
     -- the next one is taken
     pub one_taken : (c : Cut) (texts' : List (List Tok)) → or_fault (argument_of rest) MacroArg at ≡ Ok c → texts' ≡ texts ++ c.front ∷ []
@@ -49,7 +49,7 @@ module _ (at n : ℕ) (texts : List (List Tok)) (rest : List Tok) (answer : Answ
     one_taken c texts' known pushed =
         told ∙ ap (λ (n : ℕ). with_taken texts (arguments_of at n rest)) is
         ∙ ap (λ (first : Answer Cut). with_taken texts (first >>= λ first. arguments_of at more first.rest
-            >>= λ more. Ok (given (first.front ∷ more.texts) more.rest))) known
+        >>= λ more. Ok (given (first.front ∷ more.texts) more.rest))) known
         ∙ joined (arguments_of at more c.rest) ∙ ap (λ (ts : List (List Tok)). with_taken ts (arguments_of at more c.rest)) (sym pushed)
       where
         joined : (r : Answer Arguments)
@@ -90,6 +90,6 @@ pub replaced_by : (budget : ℕ) (called : Macro) (at : ℕ) (s : Stream) (texts
 unfolding replaced call_text
 replaced_by budget called at s texts rest known same are =
     ap (λ (a : Answer Arguments). (a >>= λ a. Ok (cut (with_arguments a.texts called.body) a.rest))
-        >>= λ text. pay budget s.units (cost_of text.front) at >>= λ paid. Ok (stream paid (unread (text.front ++ text.rest) s.list.end))) known
+    >>= λ text. pay budget s.units (cost_of text.front) at >>= λ paid. Ok (stream paid (unread (text.front ++ text.rest) s.list.end))) known
     ∙ ap (λ (ts : List (List Tok)). pay budget s.units (cost_of (with_arguments ts called.body)) at
-        >>= λ paid. Ok (stream paid (unread (with_arguments ts called.body ++ rest) s.list.end))) (sym are)
+    >>= λ paid. Ok (stream paid (unread (with_arguments ts called.body ++ rest) s.list.end))) (sym are)

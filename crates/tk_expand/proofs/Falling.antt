@@ -61,26 +61,38 @@ module _ (budget : ℕ) where
   same_falls s = record { end = refl; units = omega arith; work_falls = omega arith }
 
   pub falls_then : (s r q : Stream) → Falls s r → Falls r q → Falls s q
-  falls_then s r q f g = record { end = g.end ∙ f.end; units = (let a = f.units in let b = g.units in omega arith);
-      work_falls = (let a = f.work_falls in let b = g.work_falls in omega arith) }
+  falls_then s r q f g = record {
+    end = g.end ∙ f.end;
+    units = (let a = f.units in let b = g.units in omega arith);
+    work_falls = (let a = f.work_falls in let b = g.work_falls in omega arith);
+  }
 
   pub less_falls : (s r : Stream) → LessLeft s r → Falls s r
   less_falls s r f = record { end = f.end; units = f.units; work_falls = (let a = f.less in omega arith) }
 
   pub less_then : (s r q : Stream) → LessLeft s r → Falls r q → LessLeft s q
-  less_then s r q f g = record { end = g.end ∙ f.end; units = (let a = f.units in let b = g.units in omega arith);
-      less = (let a = f.less in let b = g.work_falls in omega arith) }
+  less_then s r q f g = record {
+    end = g.end ∙ f.end;
+    units = (let a = f.units in let b = g.units in omega arith);
+    less = (let a = f.less in let b = g.work_falls in omega arith);
+  }
 
   pub then_less : (s r q : Stream) → Falls s r → LessLeft r q → LessLeft s q
-  then_less s r q f g = record { end = g.end ∙ f.end; units = (let a = f.units in let b = g.units in omega arith);
-      less = (let a = f.work_falls in let b = g.less in omega arith) }
+  then_less s r q f g = record {
+    end = g.end ∙ f.end;
+    units = (let a = f.units in let b = g.units in omega arith);
+    less = (let a = f.work_falls in let b = g.less in omega arith);
+  }
 
   pub takes_falls : (s : Stream) (n : Next) → Takes s n → Falls s n.stream
   takes_falls s n f = record { end = f.end; units = f.units; work_falls = (let a = f.work_falls in omega arith) }
 
   pub falls_takes : (s r : Stream) (n : Next) → Falls s r → Takes r n → Takes s n
-  falls_takes s r n f g = record { end = g.end ∙ f.end; units = (let a = f.units in let b = g.units in omega arith);
-      work_falls = (let a = f.work_falls in let b = g.work_falls in omega arith) }
+  falls_takes s r n f g = record {
+    end = g.end ∙ f.end;
+    units = (let a = f.units in let b = g.units in omega arith);
+    work_falls = (let a = f.work_falls in let b = g.work_falls in omega arith);
+  }
 
   -- each value that holds so holds from an earlier stream on
   pub further : (s r : Stream) (answer : Answer Stream) → Falls s r → IfOk answer (Falls r) → IfOk answer (Falls s)
@@ -103,15 +115,18 @@ module _ (budget : ℕ) where
   unfolding replaced
   replaced_spends called at s =
       then_holds (λ (c : Cut). length c.rest ≤ length s.list.rest) (Spends s) (call_text called at s.list.rest) _
-          (text_rest called at s.list.rest) (λ c short.
+      (text_rest called at s.list.rest) (λ c short.
       then_holds (λ now. (now ≡ s.units + (1 + length c.front)) × (now ≤ budget)) (Spends s) (pay budget s.units (1 + length c.front) at) _
-          (paid_units_are_within budget s.units (1 + length c.front) at) (λ now p.
+      (paid_units_are_within budget s.units (1 + length c.front) at) (λ now p.
       record { end = refl; units = omega arith; work_falls = omega (arith, length-append c.front c.rest) }))
 
   -- the word of the call was work too
   pub call_less : (s r : Stream) (t : Tok) (ts : List Tok) → s.list.rest ≡ t ∷ ts → Spends (with_rest s ts) r → LessLeft s r
-  call_less s r t ts e p = record { end = p.end; units = (let a = p.units in omega arith);
-      less = (let a = p.work_falls in omega (arith, ap length e)) }
+  call_less s r t ts e p = record {
+    end = p.end;
+    units = (let a = p.units in omega arith);
+    less = (let a = p.work_falls in omega (arith, ap length e));
+  }
 
 module _ (budget : ℕ) (macros : Macros) where
   -- ---- the front of a list
@@ -121,7 +136,7 @@ module _ (budget : ℕ) (macros : Macros) where
   front_token_falls rec h s t ts e None = same_falls budget s
   front_token_falls rec h s t ts e (Some called) =
       then_holds (Spends budget (with_rest s ts)) (Falls budget s) (replaced budget called t.at (with_rest s ts)) _ (replaced_spends budget called
-          t.at (with_rest s ts)) (λ r p.
+      t.at (with_rest s ts)) (λ r p.
       further budget s r (rec r) (less_falls budget s r (call_less budget s r t ts e p)) (h r))
 
   front_list_falls : (rec : Stream → Answer Stream) → ((s : Stream) → IfOk (rec s) (Falls budget s)) → (s : Stream) (ts : List Tok) → s.list.rest ≡ ts
@@ -140,7 +155,7 @@ module _ (budget : ℕ) (macros : Macros) where
     front_token_alike t ts e None = refl
     front_token_alike t ts e (Some called) =
         then_alike (Spends budget (with_rest s ts)) (replaced budget called t.at (with_rest s ts)) f g (replaced_spends budget called t.at
-            (with_rest s ts)) (λ r p. alike r (call_less budget s r t ts e p).less)
+        (with_rest s ts)) (λ r p. alike r (call_less budget s r t ts e p).less)
 
     front_list_alike : (ts : List Tok) → s.list.rest ≡ ts → front_list budget macros f s ts ≡ front_list budget macros g s ts
     front_list_alike [] e = refl
@@ -165,7 +180,7 @@ module _ (budget : ℕ) (macros : Macros) where
     full_list_alike m fell [] e = refl
     full_list_alike m fell (t ∷ ts) e =
         ap (λ (r : Answer Stream). r >>= λ more. Ok (with_rest more (t ∷ more.list.rest))) (alike (with_rest m ts) (let a = fell.work_falls in omega
-            (arith, ap length e)))
+        (arith, ap length e)))
 
   full_asks : AsksSmaller (work budget) (full_step budget macros)
   full_asks f g s alike =
@@ -198,7 +213,7 @@ module _ (budget : ℕ) (macros : Macros) where
   unfolding next_solid
   next_solid_takes = kept (work budget) (fault Budget 0) (next_solid_step budget macros) (λ s r. IfOk r (Takes budget s)) (λ s. tt) (λ rec h s.
       then_holds (Takes budget s) (Takes budget s) (next budget macros s) _ (next_takes s) (λ n f. solid_from rec h s n f
-          (is_there is_space n.token)))
+      (is_there is_space n.token)))
 
   chosen_alike : (f g : Stream → Answer Next) (n : Next) (b : Bool) → (b ≡ true → f n.stream ≡ g n.stream)
       → ◌≡◌ {A = Answer Next} (if b then f n.stream else Ok n) (if b then g n.stream else Ok n)

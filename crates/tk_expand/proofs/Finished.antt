@@ -23,7 +23,7 @@ module _ (budget : ℕ) (macros : Macros) where
   token_still rec h s t ts e None is = subst (StandsStill macros) (sym e) is
   token_still rec h s t ts e (Some called) is =
       then_holds (λ _. Unit {0}) (λ (r : Stream). StandsStill macros r.list.rest) (replaced budget called t.at (with_rest s ts)) _
-          (anything (replaced budget called t.at (with_rest s ts))) (λ r p. h r)
+      (anything (replaced budget called t.at (with_rest s ts))) (λ r p. h r)
     where
       anything : (r : Answer Stream) → IfOk r (λ _. Unit {0})
       anything (Ok x) = tt
@@ -45,7 +45,7 @@ module _ (budget : ℕ) (macros : Macros) where
   list_expanded rec h s [] e still = subst (IsExpanded macros) (sym e) refl
   list_expanded rec h s (t ∷ ts) e still =
       then_holds (λ (r : Stream). IsExpanded macros r.list.rest) (λ (r : Stream). IsExpanded macros r.list.rest) (rec (with_rest s ts)) _
-          (h (with_rest s ts)) (λ more k.
+      (h (with_rest s ts)) (λ more k.
       ap (λ (o : Option Macro). is_none o && list_all (λ (t : Tok). is_none (called_by macros t.kind)) more.list.rest) still ∙ k)
 
   -- no call is left
@@ -54,7 +54,7 @@ module _ (budget : ℕ) (macros : Macros) where
   full_expanded =
       kept (work budget) (fault Budget 0) (full_step budget macros) (λ s r. IfOk r (λ r. IsExpanded macros r.list.rest)) (λ s. tt) (λ f h s.
       then_holds (λ (m : Stream). StandsStill macros m.list.rest) (λ (r : Stream). IsExpanded macros r.list.rest) (front budget macros s) _
-          (front_still s) (λ m still. list_expanded f h m m.list.rest refl still))
+      (front_still s) (λ m still. list_expanded f h m m.list.rest refl still))
 
   -- ---- a list without calls
 
@@ -66,14 +66,14 @@ module _ (budget : ℕ) (macros : Macros) where
   pub front_stops : (s : Stream) (t : Tok) (ts : List Tok) → s.list.rest ≡ t ∷ ts → called_by macros t.kind ≡ None → front budget macros s ≡ Ok s
   front_stops s t ts e calls =
       front_is budget macros s ∙ ap (front_list budget macros (front budget macros) s) e
-          ∙ ap (front_token budget macros (front budget macros) s t ts) calls
+      ∙ ap (front_token budget macros (front budget macros) s t ts) calls
 
   -- where nothing is in front that calls, a step takes the token in front
   full_stops : (s : Stream) (ts : List Tok) → front budget macros s ≡ Ok s → s.list.rest ≡ ts
       → full budget macros s ≡ full_list budget macros (full budget macros) s ts
   full_stops s ts still e =
       full_is budget macros s ∙ then_is (front budget macros s) (λ a. full_list budget macros (full budget macros) a a.list.rest) s still
-          ∙ ap (full_list budget macros (full budget macros) s) e
+      ∙ ap (full_list budget macros (full budget macros) s) e
 
   no_call : (o : Option Macro) (b : Bool) → (is_none o && b) ≡ true → (o ≡ None) × (b ≡ true)
   no_call None b h = (refl, h)
@@ -85,7 +85,7 @@ module _ (budget : ℕ) (macros : Macros) where
       let k = no_call (called_by macros t.kind) (list_all (λ (t : Tok). is_none (called_by macros t.kind)) ts) h in
       full_stops s (t ∷ ts) (front_stops s t ts e k.0) e
       ∙ then_is (full budget macros (with_rest s ts)) (λ more. Ok (with_rest more (t ∷ more.list.rest))) (with_rest s ts)
-          (own_expansion (with_rest s ts) ts refl k.1)
+      (own_expansion (with_rest s ts) ts refl k.1)
       ∙ ap (λ (us : List Tok). (let r : Answer Stream = Ok (with_rest s us) in r)) (sym e)
 
   -- a list in which nothing calls is its own expansion, and costs nothing

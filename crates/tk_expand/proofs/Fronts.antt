@@ -54,14 +54,14 @@ module _ (budget : ℕ) (macros : Macros) (s : Stream) where
       front_calls : front budget macros s ≡ (replaced budget called t.at (stream s.units list) >>= front budget macros)
       front_calls =
           front_is budget macros s ∙ ap (front_list budget macros (front budget macros) s) is
-              ∙ ap (front_token budget macros (front budget macros) s t list.rest) calls
+          ∙ ap (front_token budget macros (front budget macros) s t list.rest) calls
           ∙ ap (λ (r : Stream). replaced budget called t.at r >>= front budget macros) behind
 
       pub next_fails : (e : Refusal) → Fails e (replaced budget called t.at (stream s.units list)) → Fails e (next budget macros s)
       unfolding next
       next_fails e h =
           fails_then e (front budget macros s) _ (fails_as e _ _ front_calls (fails_then e (replaced budget called t.at (stream s.units list))
-              (front budget macros) h))
+          (front budget macros) h))
 
       module _ (r : Stream) (known : replaced budget called t.at (stream s.units list) ≡ Ok r) where
         pub next_goes : next budget macros s ≡ next budget macros r
@@ -72,7 +72,7 @@ module _ (budget : ℕ) (macros : Macros) (s : Stream) where
         pub call_spends : (s.units < r.units) × (work budget r < work budget s)
         call_spends =
             let p = known_of (Spends budget (stream s.units list)) (replaced budget called t.at (stream s.units list)) r known
-                    (replaced_spends budget called t.at (stream s.units list)) in
+            (replaced_spends budget called t.at (stream s.units list)) in
             (p.units, (let a = p.work_falls in omega (arith, ap length is)))
 
 -- ---- a full expansion
@@ -99,7 +99,7 @@ module _ (budget : ℕ) (macros : Macros) where
 
   by_next : (m : Answer Stream)
       → (m >>= λ a. full_list budget macros (full budget macros) a a.list.rest)
-          ≡ ((m >>= λ a. let n : Answer Next = Ok (first_taken a a.list.rest) in n) >>= λ n. full_from n.token n.stream)
+      ≡ ((m >>= λ a. let n : Answer Next = Ok (first_taken a a.list.rest) in n) >>= λ n. full_from n.token n.stream)
   by_next (Ok a) = list_by_next a a.list.rest
   by_next (Err e) = refl
 
@@ -130,4 +130,4 @@ module _ (budget : ℕ) (macros : Macros) where
     pub full_fails : (e : Refusal) → Fails e (next budget macros now) → Fails e answer
     full_fails e h =
         fails_as e answer _ told (fails_then e (full budget macros now) _ (fails_as e _ _ (full_by_next now)
-            (fails_then e (next budget macros now) _ h)))
+        (fails_then e (next budget macros now) _ h)))

@@ -44,7 +44,7 @@ argument_in_no_longer (t ∷ ts) = argument_from_no_longer t.kind t ts
 pub argument_no_longer : (ts : List Tok) → IfSome (argument_of ts) (IsNoLonger ts)
 argument_no_longer ts =
     no_longer_than_longer (after_spaces ts) ts (argument_in (after_spaces ts)) (omega (arith, length-drop (prefix_len is_space_token ts) ts))
-        (argument_in_no_longer (after_spaces ts))
+    (argument_in_no_longer (after_spaces ts))
 
 -- what stands behind so many arguments
 pub arguments_no_longer : (at n : ℕ) (ts : List Tok) → IfOk (arguments_of at n ts) (λ a. length a.rest ≤ length ts)
@@ -52,16 +52,16 @@ unfolding arguments_of
 arguments_no_longer at zero ts = omega arith
 arguments_no_longer at (suc n) ts =
     then_holds (IsNoLonger ts) (λ (a : Arguments). length a.rest ≤ length ts) (or_fault (argument_of ts) MacroArg at) _
-        (or_fault_holds (IsNoLonger ts) (argument_of ts) MacroArg at (argument_no_longer ts)) (λ first h.
+    (or_fault_holds (IsNoLonger ts) (argument_of ts) MacroArg at (argument_no_longer ts)) (λ first h.
     then_holds (λ (a : Arguments). length a.rest ≤ length first.rest) (λ (a : Arguments). length a.rest ≤ length ts) (arguments_of at n first.rest) _
-        (arguments_no_longer at n first.rest) (λ more k. omega arith))
+    (arguments_no_longer at n first.rest) (λ more k. omega arith))
 
 -- what stands behind a call
 pub text_rest : (called : Macro) (at : ℕ) (ts : List Tok) → IfOk (call_text called at ts) (λ c. length c.rest ≤ length ts)
 unfolding call_text
 text_rest called at ts =
     then_holds (λ (a : Arguments). length a.rest ≤ length ts) (λ (c : Cut). length c.rest ≤ length ts) (arguments_of at called.args ts) _
-        (arguments_no_longer at called.args ts) (λ a h. h)
+    (arguments_no_longer at called.args ts) (λ a h. h)
 
 -- the same where the argument is known
 pub known_no_longer : (at : ℕ) (ts : List Tok) (c : Cut) → or_fault (argument_of ts) MacroArg at ≡ Ok c → IsNoLonger ts c

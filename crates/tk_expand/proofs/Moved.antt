@@ -36,14 +36,14 @@ module _ (budget : ℕ) (macros : Macros) (end : ℕ) where
     where
       of_paid : (front rest : List Tok) (paid : Answer ℕ)
           → ◌≡◌ {A = Answer Stream} (paid >>= λ paid. Ok (stream paid (unread (front ++ rest) end))) (moved_answer end (paid
-              >>= λ paid. Ok (stream paid (unread (front ++ rest) s.list.end))))
+          >>= λ paid. Ok (stream paid (unread (front ++ rest) s.list.end))))
       of_paid front rest (Ok n) = refl
       of_paid front rest (Err e) = refl
 
       of_text : (text : Answer Cut)
           → ◌≡◌ {A = Answer Stream} (text >>= λ text. pay budget s.units (cost_of text.front) at
-              >>= λ paid. Ok (stream paid (unread (text.front ++ text.rest) end))) (moved_answer end (text
-              >>= λ text. pay budget s.units (cost_of text.front) at >>= λ paid. Ok (stream paid (unread (text.front ++ text.rest) s.list.end))))
+          >>= λ paid. Ok (stream paid (unread (text.front ++ text.rest) end))) (moved_answer end (text
+          >>= λ text. pay budget s.units (cost_of text.front) at >>= λ paid. Ok (stream paid (unread (text.front ++ text.rest) s.list.end))))
       of_text (Ok c) = of_paid c.front c.rest (pay budget s.units (cost_of c.front) at)
       of_text (Err e) = refl
 
@@ -60,7 +60,7 @@ module _ (budget : ℕ) (macros : Macros) (end : ℕ) where
   token_moved f s t ts e h (Some called) =
       ap (λ (m : Answer Stream). m >>= f) (replaced_moved called t.at (with_rest s ts))
       ∙ moved_then (Spends budget (with_rest s ts)) end (replaced budget called t.at (with_rest s ts)) f (replaced_spends budget called t.at
-          (with_rest s ts)) (λ r p. h r (call_less budget s r t ts e p).less)
+      (with_rest s ts)) (λ r p. h r (call_less budget s r t ts e p).less)
 
   list_moved : (f : Stream → Answer Stream) (s : Stream) (ts : List Tok) → s.list.rest ≡ ts
       → ((r : Stream) → work budget r < work budget s → f (moved end r) ≡ moved_answer end (f r))
@@ -71,11 +71,11 @@ module _ (budget : ℕ) (macros : Macros) (end : ℕ) where
   front_moved : (s : Stream) → front budget macros (moved end s) ≡ moved_answer end (front budget macros s)
   front_moved s = by_work (λ s. front budget macros (moved end s) ≡ moved_answer end (front budget macros s)) (λ s h.
       front_is budget macros (moved end s) ∙ list_moved (front budget macros) s s.list.rest refl h
-          ∙ ap (moved_answer end) (sym (front_is budget macros s))) (suc (work budget s)) s (omega arith)
+      ∙ ap (moved_answer end) (sym (front_is budget macros s))) (suc (work budget s)) s (omega arith)
 
   kept_moved : (t : Tok) (m : Answer Stream)
       → ◌≡◌ {A = Answer Stream} (moved_answer end m >>= λ more. Ok (with_rest more (t ∷ more.list.rest))) (moved_answer end (m
-          >>= λ more. Ok (with_rest more (t ∷ more.list.rest))))
+      >>= λ more. Ok (with_rest more (t ∷ more.list.rest))))
   kept_moved t (Ok r) = refl
   kept_moved t (Err e) = refl
 
@@ -85,7 +85,7 @@ module _ (budget : ℕ) (macros : Macros) (end : ℕ) where
   rest_moved f s m fell [] e h = refl
   rest_moved f s m fell (t ∷ ts) e h =
       ap (λ (a : Answer Stream). a >>= λ more. Ok (with_rest more (t ∷ more.list.rest)))
-          (h (with_rest m ts) (let a = fell.work_falls in omega (arith, ap length e)))
+      (h (with_rest m ts) (let a = fell.work_falls in omega (arith, ap length e)))
       ∙ kept_moved t (f (with_rest m ts))
 
   -- the expansion is the same, moved
@@ -94,7 +94,7 @@ module _ (budget : ℕ) (macros : Macros) (end : ℕ) where
       full_is budget macros (moved end s)
       ∙ ap (λ (m : Answer Stream). m >>= λ a. full_list budget macros (full budget macros) a a.list.rest) (front_moved s)
       ∙ moved_then (Falls budget s) end (front budget macros s) (λ a. full_list budget macros (full budget macros) a a.list.rest)
-          (front_falls budget macros s) (λ m fell. rest_moved (full budget macros) s m fell m.list.rest refl h)
+      (front_falls budget macros s) (λ m fell. rest_moved (full budget macros) s m fell m.list.rest refl h)
       ∙ ap (moved_answer end) (sym (full_is budget macros s))) (suc (work budget s)) s (omega arith)
 
   pub full_moved_known : (units paid : ℕ) (list text : List Tok)
@@ -113,7 +113,7 @@ pub moved_gives : (budget : ℕ) (macros : Macros) (units paid : ℕ) (list list
     → Gives (λ text. stream paid (unread text.items end)) result (full budget macros (stream units (unread list end)))
 moved_gives budget macros units paid list list' (Ok text) same h end =
     full_moved_known budget macros end units paid list text.items (ap (λ (ts : List Tok). full budget macros (stream units (unread ts 0))) (sym same)
-        ∙ h)
+    ∙ h)
 moved_gives budget macros units paid list list' (Err e) same h end =
     full_moved_fails budget macros end units list e (fails_as e _ _ (ap (λ (ts : List Tok). full budget macros (stream units (unread ts 0)))
-        (sym same)) h)
+    (sym same)) h)

@@ -45,6 +45,6 @@ module _ (P : ℕ → Type 0) where
     next_solid_at s = by_work P budget macros bodies (λ s. StreamAt P s → Stands P NextAt (next_solid budget macros s))
         (λ s h all. subst (Stands P NextAt) (sym (solid_is budget macros s)) (
         then_stands P (λ (n : Next). NextAt n × Takes budget s n) NextAt (next budget macros s) _ (also P NextAt (Takes budget s)
-            (next budget macros s) (next_at s all) (next_takes budget macros s)) (λ n k.
+        (next budget macros s) (next_at s all) (next_takes budget macros s)) (λ n k.
         solid_at n k.0 (is_there is_space n.token) (λ b. h n.stream (let a = k.1.work_falls in omega (arith, one_there is_space n.token b)) k.0.1))))
-            (suc (work budget s)) s (omega arith)
+        (suc (work budget s)) s (omega arith)

@@ -106,7 +106,7 @@ module _ (P : ℕ → Type 0) where
   unfolding call_text
   text_at called at ts p b h =
       then_stands ArgumentsAt CutAt (arguments_of at called.args ts) _ (arguments_at at called.args ts p h)
-          (λ a k. (with_arguments_at a.texts called.body k.0 b, k.1))
+      (λ a k. (with_arguments_at a.texts called.body k.0 b, k.1))
 
   paid_at : (budget units cost at : ℕ) → P at → Stands (λ _. Unit {0}) (pay budget units cost at)
   paid_at budget units cost at p = go (nat_lt budget (units + cost))
@@ -124,7 +124,7 @@ module _ (P : ℕ → Type 0) where
   replaced_at budget called at s p b h =
       then_stands CutAt StreamAt (call_text called at s.list.rest) _ (text_at called at s.list.rest p b h) (λ c k.
       then_stands (λ _. Unit {0}) StreamAt (pay budget s.units (cost_of c.front) at) _ (paid_at budget s.units (cost_of c.front) at p)
-          (λ now m. joined_at c.front c.rest k.0 k.1))
+      (λ now m. joined_at c.front c.rest k.0 k.1))
 
   -- each body has its tokens at such places
   abbrev pub BodiesAt : Macros → Type 0
@@ -153,9 +153,9 @@ module _ (P : ℕ → Type 0) where
     token_at rec s t ts e None is h all both = all
     token_at rec s t ts e (Some called) is h all both =
         then_stands (λ (r : Stream). StreamAt r × Spends budget (with_rest s ts) r) StreamAt (replaced budget called t.at (with_rest s ts)) _
-            (also StreamAt (Spends budget (with_rest s ts)) (replaced budget called t.at (with_rest s ts)) (replaced_at budget called t.at
-            (with_rest s ts) both.0 (body_at t.kind called is) both.1) (replaced_spends budget called t.at (with_rest s ts)))
-            (λ r k. h r (call_less budget s r t ts e k.1).less k.0)
+        (also StreamAt (Spends budget (with_rest s ts)) (replaced budget called t.at (with_rest s ts)) (replaced_at budget called t.at
+        (with_rest s ts) both.0 (body_at t.kind called is) both.1) (replaced_spends budget called t.at (with_rest s ts)))
+        (λ r k. h r (call_less budget s r t ts e k.1).less k.0)
 
     list_at : (rec : Stream → Answer Stream) (s : Stream) (ts : List Tok) → s.list.rest ≡ ts
         → ((r : Stream) → work budget r < work budget s → StreamAt r → Stands StreamAt (rec r)) → StreamAt s → StandAt ts
@@ -173,11 +173,11 @@ module _ (P : ℕ → Type 0) where
     rest_at s m fell [] e h all same = all
     rest_at s m fell (t ∷ ts) e h all same =
         then_stands StreamAt StreamAt (full budget macros (with_rest m ts)) _
-            (h (with_rest m ts) (let a = fell.work_falls in omega (arith, ap length e)) same.1) (λ more k. (same.0, k))
+        (h (with_rest m ts) (let a = fell.work_falls in omega (arith, ap length e)) same.1) (λ more k. (same.0, k))
 
     pub full_at : (s : Stream) → StreamAt s → Stands StreamAt (full budget macros s)
     full_at s =
         by_work (λ s. StreamAt s → Stands StreamAt (full budget macros s)) (λ s h all. subst (Stands StreamAt) (sym (full_is budget macros s)) (
         then_stands (λ (m : Stream). StreamAt m × Falls budget s m) StreamAt (front budget macros s) _ (also StreamAt (Falls budget s)
-            (front budget macros s) (front_at s all) (front_falls budget macros s)) (λ m k.
+        (front budget macros s) (front_at s all) (front_falls budget macros s)) (λ m k.
         rest_at s m k.1 m.list.rest refl h k.0 k.0))) (suc (work budget s)) s (omega arith)

@@ -21,7 +21,7 @@ stacked-last (l ∷ []) (suc i) d is = absurd (omega (arith, is))
 stacked-last (l ∷ m ∷ lists) zero d is = absurd (omega (arith, is))
 stacked-last (l ∷ m ∷ lists) (suc i) d is =
     ap (λ (ts : List Tok). ts ++ l) (stacked-last (m ∷ lists) i d (omega (arith, is))) ∙ append_assoc (get_or (m ∷ lists) i d)
-        (stacked (take i (m ∷ lists))) l
+    (stacked (take i (m ∷ lists))) l
 
 -- another list in the place of the last one is read first
 pub stacked-set : (lists : List (List Tok)) (i : ℕ) (new : List Tok) → suc i ≡ length lists
@@ -45,7 +45,7 @@ pub taken-within : (lists : List (List Tok)) (i : ℕ) (old new : List Tok) (tok
     → old ≡ tok ∷ new → stacked lists ≡ tok ∷ stacked (slice_set lists i new)
 taken-within lists i old new tok is there first =
     stacked-last lists i old is ∙ ap (λ (ts : List Tok). ts ++ stacked (take i lists)) (sym there ∙ first) ∙ ap (λ (ts : List Tok). tok ∷ ts)
-        (sym (stacked-set lists i new is))
+    (sym (stacked-set lists i new is))
 
 -- the only token of the last list is taken, and that list with it
 pub taken-out : (lists lists' : List (List Tok)) (i : ℕ) (old new : List Tok) (tok : Tok) → suc i ≡ length lists → old ≡ get_or lists i old
@@ -53,7 +53,7 @@ pub taken-out : (lists lists' : List (List Tok)) (i : ℕ) (old new : List Tok) 
 taken-out lists lists' i old new tok is there first none rest =
     taken-within lists i old new tok is there first
     ∙ ap (λ (ts : List Tok). tok ∷ ts) (stacked-set lists i new is ∙ ap (λ (ts : List Tok). ts ++ stacked (take i lists)) none
-        ∙ ap stacked (sym (rest ∙ take-set lists i new)))
+    ∙ ap stacked (sym (rest ∙ take-set lists i new)))
 
 -- with no list there is no token
 pub none-left : (lists : List (List Tok)) → length lists ≡ 0 → stacked lists ≡ []
@@ -73,7 +73,7 @@ pub first_of_last : (lists : List (List Tok)) (i : ℕ) (last : List Tok) (d : L
     → slice_get last 0 ≡ Some t → slice_get (stacked lists) 0 ≡ Some t
 first_of_last lists i last d t is there first =
     ap (λ (ts : List Tok). slice_get ts 0) (stacked-last lists i d is ∙ ap (λ (ts : List Tok). ts ++ stacked (take i lists)) (sym there))
-        ∙ in_front last (stacked (take i lists)) first
+    ∙ in_front last (stacked (take i lists)) first
   where
     in_front : (ts us : List Tok) → slice_get ts 0 ≡ Some t → slice_get (ts ++ us) 0 ≡ Some t
     in_front [] us h = absurd cc

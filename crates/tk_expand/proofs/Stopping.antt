@@ -31,7 +31,7 @@ module _ (wanted : Kind → Bool) where
 
   by_tests : (t : Tok) (ts us : List Tok) (a b : Bool) (o p : Option Cut) → IfSome o (FoundBefore us p)
       → IfSome (if a then Some (cut [] (t ∷ ts)) else (if b then None else with_first t o)) (FoundBefore us (if a then Some (cut [] (t ∷ (ts ++ us)))
-          else (if b then None else with_first t p)))
+      else (if b then None else with_first t p)))
   by_tests t ts us true b o p h = refl
   by_tests t ts us false true o p h = tt
   by_tests t ts us false false None p h = tt
@@ -43,7 +43,7 @@ module _ (wanted : Kind → Bool) where
   found_before depth [] us = tt
   found_before depth (t ∷ ts) us =
       by_tests t ts us (depth == 0 && wanted t.kind) (depth == 0 && is_close t.kind) (first_outside_in (begins wanted) (depth_after depth t.kind) ts)
-          (first_outside_in (begins wanted) (depth_after depth t.kind) (ts ++ us)) (found_before (depth_after depth t.kind) ts us)
+      (first_outside_in (begins wanted) (depth_after depth t.kind) (ts ++ us)) (found_before (depth_after depth t.kind) ts us)
 
   past_before : (ts us : List Tok) (o p : Option Cut) → IfSome o (Parts (begins wanted) ts) → IfSome o (FoundBefore us p)
       → IfSome (past_first o) (FoundBefore us (past_first p))
@@ -66,7 +66,7 @@ module _ (wanted : Kind → Bool) where
   before_more ts us front rest e =
       known_before us (past_first (first_outside (begins wanted) ts)) (past_first (first_outside (begins wanted) (ts ++ us))) front rest
       (past_before ts us (first_outside (begins wanted) ts) (first_outside (begins wanted) (ts ++ us)) (parts (begins wanted) ts)
-          (found_before 0 ts us)) e
+      (found_before 0 ts us)) e
 
 -- ---- token by token
 
@@ -107,7 +107,7 @@ known_shorter stop ts front rest e =
 pub taken_there : (stop : Stop) (list : List Tok) (from : ℕ) (sought : Sought) (left front rest : List Tok) → from ≤ length list
     → left ≡ drop from list → sought ≡ sought_of stop → Some (cut front rest) ≡ first_outside (begins_sought sought) left
     → (length rest ≤ length list) × ((length list - length rest) + 1 ≤ length list)
-        × (before_stop stop left ≡ Some (cut front (drop ((length list - length rest) + 1) list)))
+    × (before_stop stop left ≡ Some (cut front (drop ((length list - length rest) + 1) list)))
 taken_there stop list from sought left front rest le view is found = at_rest rest refl p.1 p.0
   where
     known : first_outside (begins (is_stop stop)) left ≡ Some (cut front rest)
@@ -119,7 +119,7 @@ taken_there stop list from sought left front rest le view is found = at_rest res
 
     at_rest : (ts : List Tok) → ts ≡ rest → begins (is_stop stop) ts ≡ true → front ++ ts ≡ left
         → (length rest ≤ length list) × ((length list - length rest) + 1 ≤ length list)
-            × (before_stop stop left ≡ Some (cut front (drop ((length list - length rest) + 1) list)))
+        × (before_stop stop left ≡ Some (cut front (drop ((length list - length rest) + 1) list)))
     at_rest [] same b e = absurd cc
     at_rest (t ∷ us) same b e = (
       omega (arith, ap length same, ap length e, ap length view, length-append front (t ∷ us), length-drop from list),
@@ -128,14 +128,14 @@ taken_there stop list from sought left front rest le view is found = at_rest res
           ap (drop 1) (sym (drop-append_seam front rest)) ∙ ap (λ (ts : List Tok). drop 1 (drop (length front) ts)) (p.0 ∙ view)
           ∙ ap (drop 1) (drop-drop (length front) from list) ∙ drop-drop 1 (from + length front) list
           ∙ ap (λ (n : ℕ).
-              drop n list) (let n : (from + length front) + 1 ≡ (length list - length rest) + 1 = omega (arith, ap length same, ap length e, ap length view, length-append front (t ∷ us), length-drop from list) in n)),
+          drop n list) (let n : (from + length front) + 1 ≡ (length list - length rest) + 1 = omega (arith, ap length same, ap length e, ap length view, length-append front (t ∷ us), length-drop from list) in n)),
     )
 
 pub found_shorter : (stop : Stop) (ts us front rest : List Tok) (found : Bool) → before_stop stop ts ≡ (if found then Some (cut front rest) else None)
     → found ≡ true → ts ≡ us → length front + length rest < length us
 found_shorter stop ts us front rest found e h same =
     known_shorter stop us front rest (ap (before_stop stop) (sym same) ∙ e
-        ∙ ap (λ (b : Bool). (let o : Option Cut = if b then Some (cut front rest) else None in o)) h)
+    ∙ ap (λ (b : Bool). (let o : Option Cut = if b then Some (cut front rest) else None in o)) h)
 
 -- ---- in the list that is read first
 

@@ -24,14 +24,14 @@ module _ (budget : ℕ) (macros : Macros) (s : Stream) where
       → next_solid budget macros s ≡ next_solid budget macros r
   solid_passes t r known h =
       solid_is budget macros s ∙ then_is (next budget macros s) solid_from (taken (Some t) r) known
-          ∙ ap (λ (b : Bool). (let a : Answer Next = if b then next_solid budget macros r else Ok (taken (Some t) r) in a)) h
+      ∙ ap (λ (b : Bool). (let a : Answer Next = if b then next_solid budget macros r else Ok (taken (Some t) r) in a)) h
 
   -- another token was taken
   pub solid_stops : (t : Tok) (r : Stream) → next budget macros s ≡ Ok (taken (Some t) r) → is_space t.kind ≡ false
       → next_solid budget macros s ≡ Ok (taken (Some t) r)
   solid_stops t r known h =
       solid_is budget macros s ∙ then_is (next budget macros s) solid_from (taken (Some t) r) known
-          ∙ ap (λ (b : Bool). (let a : Answer Next = if b then next_solid budget macros r else Ok (taken (Some t) r) in a)) h
+      ∙ ap (λ (b : Bool). (let a : Answer Next = if b then next_solid budget macros r else Ok (taken (Some t) r) in a)) h
 
   -- nothing was left
   pub solid_ends : (r : Stream) → next budget macros s ≡ Ok (taken None r) → next_solid budget macros s ≡ Ok (taken None r)

@@ -70,7 +70,7 @@ pub single_argument : (at : ℕ) (rest : List Tok) (t : Tok) (ts : List Tok) →
     → or_fault (argument_of rest) MacroArg at ≡ Ok (cut (t ∷ []) ts)
 single_argument at rest t ts e not_open not_close =
     ap (λ (us : List Tok). or_fault (argument_in us) MacroArg at) e ∙ ap (λ (o : Option Cut). or_fault o MacroArg at) (single_token_is_argument t.kind
-        t ts not_open not_close)
+    t ts not_open not_close)
 
 -- ---- texts
 

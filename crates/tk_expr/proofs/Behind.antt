@@ -93,9 +93,12 @@ module _ (font : FontUnits) where
 
   raise_same : (at : ℕ) (x : Found) (p : Pending) (k : Behind) (ps : List Piece)
       → Via (Exponential font ps) (λ w qs. Via (Goes font Powers (applied (waiting Raise at (powered p x)) w) qs) (after_signed font p k))
-          ↔ Via (Exponential font ps) (after_postfix font (waits Raise at x p) k)
-  raise_same at x p k ps = waits_same _ _ (Exponential font ps) (λ w qs. (λ h. subst (λ y. Via (Goes font Powers y qs) (after_signed font p k))
-      (sym (powered_fresh at x w p)) h, λ h. subst (λ y. Via (Goes font Powers y qs) (after_signed font p k)) (powered_fresh at x w p) h))
+      ↔ Via (Exponential font ps) (after_postfix font (waits Raise at x p) k)
+  raise_same at x p k ps = waits_same _ _ (Exponential font ps) (λ w qs. (
+    λ h. subst (λ y. Via (Goes font Powers y qs) (after_signed font p k))
+        (sym (powered_fresh at x w p)) h,
+    λ h. subst (λ y. Via (Goes font Powers y qs) (after_signed font p k)) (powered_fresh at x w p) h,
+  ))
 
   -- a comparison, where none waits
   comparand_in : (w : Option Waiting) (m : Mark) (g : is_gap m ≡ false) (p : Pending) (k : Behind) (x : Found) (at : ℕ) (ps : List Piece)
@@ -152,7 +155,7 @@ module _ (font : FontUnits) where
       → Tidy font (waits o at x s.pending) → is_unit m ≡ false → ((name : Option ℕ) (os : List Opener) → open_behind name os m ≡ os)
       → ((name : Option ℕ) → Unnamed font name → NamedAt mode (name_behind name m at))
       → Same font (λ ps v. after_primary font s.pending (ends_in font s.frames v) x (piece m at ∷ ps))
-          (Completes font (record s { mode = mode; pending = waits o at x s.pending }))
+      (Completes font (record s { mode = mode; pending = waits o at x s.pending }))
       → BehindIs x s m at (operator o mode at x s)
   operator_is m o mode at x s t half tidy u same named iff =
       sure (steps (record s { mode = mode; pending = waits o at x s.pending }) iff (kept_mode s t m at mode (waits o at x s.pending) half tidy u same
@@ -231,13 +234,18 @@ module _ (font : FontUnits) where
   module _ (at : ℕ) (x : Found) (p : Pending) (k : Behind) (ps : List Piece) where
     equals_same : OperatorAt font Comparisons (after_comparison font p k) (compared p x) Equals at ps
         ↔ directly font Equals (wants font None (waits Equal at x p) k) ps
-    equals_same = let f = λ (qs : List Piece). fresh_comparison font (comparison_waits Equal at x p) k qs in (λ (n, qs, e, g). (n, qs, e, (f qs).0 g),
-        λ (n, qs, e, g). (n, qs, e, (f qs).1 g))
+    equals_same = let f = λ (qs : List Piece). fresh_comparison font (comparison_waits Equal at x p) k qs in (
+      λ (n, qs, e, g). (n, qs, e, (f qs).0 g),
+      λ (n, qs, e, g). (n, qs, e, (f qs).1 g),
+    )
 
     differs_same : OperatorAt font Comparisons (after_comparison font p k) (compared p x) Bang at ps
         ↔ directly font Equals (wants font None (waits Differs at x p) k) ps
-    differs_same = let f = λ (qs : List Piece). fresh_comparison font (comparison_waits Differs at x p) k qs in (λ (n, qs, e, g).
-        (n, qs, e, (f qs).0 g), λ (n, qs, e, g). (n, qs, e, (f qs).1 g))
+    differs_same = let f = λ (qs : List Piece). fresh_comparison font (comparison_waits Differs at x p) k qs in (
+      λ (n, qs, e, g).
+          (n, qs, e, (f qs).0 g),
+      λ (n, qs, e, g). (n, qs, e, (f qs).1 g),
+    )
 
     less_to : OperatorAt font Comparisons (after_comparison font p k) (compared p x) Less at ps
         → wants font None (waits Below at x p) k ps ⊎ directly font Equals (wants font None (waits AtMost at x p) k) ps
@@ -280,13 +288,13 @@ module _ (font : FontUnits) where
         let k = ends_in font fs v in
         shut_comparison m g e c p fs v n5 n6 (applied (Some w) (added p x)) at ps
         (subst (λ (w : Option Waiting). comparing font w (after_comparison font p k) (added p x) (piece m at ∷ ps)) is (from_comparand font m g p k x
-            at ps n0 n1 n2 n3 h))
+        at ps n0 n1 n2 n3 h))
 
     comparison_is : (o : Operator) (mode : Mode) (at : ℕ) (x : Found) (s : State) → FramesTidy font s.frames → HalfMode font mode
         → Tidy font (waits o at x s.pending) → is_unit m ≡ false → ((name : Option ℕ) (os : List Opener) → open_behind name os m ≡ os)
         → ((name : Option ℕ) → Unnamed font name → NamedAt mode (name_behind name m at)) → ((r c : ℕ → Ahead) → NoMiscount r c s.frames m)
         → ((ps : List Piece) (v : Found) → OperatorAt font Comparisons (after_comparison font s.pending (ends_in font s.frames v))
-            (compared s.pending x) m at ps ↔ Completes font (record s { mode = mode; pending = waits o at x s.pending }) ps v)
+        (compared s.pending x) m at ps ↔ Completes font (record s { mode = mode; pending = waits o at x s.pending }) ps v)
         → BehindIs x s m at (comparison o mode at x s)
     comparison_is o mode at x s t half tidy u same named none iff = by s.pending.comparison refl
       where
@@ -300,9 +308,11 @@ module _ (font : FontUnits) where
       → IsNot font Comparisons m → IsNot font Conjunctions m → IsNot font Disjunctions m
       → (x : Found) (p : Pending) (k : Behind) (at : ℕ) (ps : List Piece)
       → after_primary font p k x (piece m at ∷ ps) ↔ k (disjoined p x) (piece m at ∷ ps)
-  end_same m g c n0 n1 n2 n3 n4 n5 n6 x p k at ps =
-      (λ h. only_left (c k (disjoined p x) at ps) (from_choice font m g p k x at ps n0 n1 n2 n3 n4 n5 n6 h), λ h. to_end font p k x
-      (piece m at ∷ ps) h)
+  end_same m g c n0 n1 n2 n3 n4 n5 n6 x p k at ps = (
+    λ h. only_left (c k (disjoined p x) at ps) (from_choice font m g p k x at ps n0 n1 n2 n3 n4 n5 n6 h),
+    λ h. to_end font p k x
+        (piece m at ∷ ps) h,
+  )
 
   end_is : (m : Mark) (at : ℕ) (x : Found) (s : State) (r : Answer State) → is_gap m ≡ false → IsNoChoice m → IsNot font Postfixes m
       → IsNot font Powers m → IsNot font Products m → IsNot font Sums m → IsNot font Comparisons m → IsNot font Conjunctions m
@@ -353,8 +363,11 @@ module _ (font : FontUnits) where
 
   gap_same : (at : ℕ) (x : Found) (p : Pending) (fs : List Frame) (ps : List Piece) (v : Found)
       → after_primary font p (ends_in font fs v) x (piece Gap at ∷ ps) ↔ after_primary font p (ends_in font fs v) x ps
-  gap_same at x p fs ps v = (λ h. pass_primary font p (ends_in font fs v) (pass_ends font fs v) x (piece Gap at ∷ ps) ps refl h, λ h. pass_primary
-      font p (ends_in font fs v) (pass_ends font fs v) x ps (piece Gap at ∷ ps) refl h)
+  gap_same at x p fs ps v = (
+    λ h. pass_primary font p (ends_in font fs v) (pass_ends font fs v) x (piece Gap at ∷ ps) ps refl h,
+    λ h. pass_primary
+        font p (ends_in font fs v) (pass_ends font fs v) x ps (piece Gap at ∷ ps) refl h,
+  )
 
   pub after_is : (x : Found) (m : Mark) (at : ℕ) (s : State) → Tidy font s.pending → FramesTidy font s.frames
       → BehindIs x s m at (after font x m at s)
@@ -373,11 +386,17 @@ module _ (font : FontUnits) where
   after_is x Minus at s p t = operator_is Minus Subtract Wanted at x s t tt (λ e. refl) refl (λ name os. refl) (λ name e. refl)
       (λ ps v. minus_same at x s.pending s.frames ps v)
   after_is x Less at s p t = comparison_is Less refl refl never never never never never never never Below Ordered at x s t tt (λ e. refl) refl
-      (λ name os. refl) (λ name e. refl) (λ r c. tt) (λ ps v. (less_to at x s.pending (ends_in font s.frames v) ps, less_from at x s.pending
-      (ends_in font s.frames v) ps))
+      (λ name os. refl) (λ name e. refl) (λ r c. tt) (λ ps v. (
+        less_to at x s.pending (ends_in font s.frames v) ps,
+        less_from at x s.pending
+            (ends_in font s.frames v) ps,
+      ))
   after_is x Greater at s p t = comparison_is Greater refl refl never never never never never never never Above Ordered at x s t tt (λ e. refl) refl
-      (λ name os. refl) (λ name e. refl) (λ r c. tt) (λ ps v. (greater_to at x s.pending (ends_in font s.frames v) ps, greater_from at x s.pending
-      (ends_in font s.frames v) ps))
+      (λ name os. refl) (λ name e. refl) (λ r c. tt) (λ ps v. (
+        greater_to at x s.pending (ends_in font s.frames v) ps,
+        greater_from at x s.pending
+            (ends_in font s.frames v) ps,
+      ))
   after_is x Equals at s p t = comparison_is Equals refl refl never never never never never never never Equal (Half Equals) at x s t tt (λ e. refl)
       refl (λ name os. refl) (λ name e. refl) (λ r c. tt) (λ ps v. equals_same at x s.pending (ends_in font s.frames v) ps)
   after_is x Bang at s p t = comparison_is Bang refl refl never never never never never never never Differs (Half Equals) at x s t tt (λ e. refl) refl

@@ -45,9 +45,12 @@ module _ (font : FontUnits) where
   -- a further argument, and then the end of the bracket
   close_comma : (p : Pending) (fs : List Frame) (at : ℕ) (f : Found → Found) → ((y : Found) → Some_end (λ ps v. ends_in font fs v y ps))
       → Some_end (λ ps v. (n : ℕ) × (qs : List Piece) × (piece Comma at ∷ ps ≡ piece Comma n ∷ qs)
-          × Via (Whole font qs) (λ y rs. closes font (after_primary font p (ends_in font fs v)) (f y) rs))
-  close_comma p fs at f rest = let e = close_right p fs 0 (f (Ok pi_value)) rest in (piece Pi 0 ∷ piece Right 0 ∷ e.0, e.1,
-      (at, piece Pi 0 ∷ piece Right 0 ∷ e.0, refl, pi_via _ (piece Right 0 ∷ e.0) e.2))
+      × Via (Whole font qs) (λ y rs. closes font (after_primary font p (ends_in font fs v)) (f y) rs))
+  close_comma p fs at f rest = let e = close_right p fs 0 (f (Ok pi_value)) rest in (
+    piece Pi 0 ∷ piece Right 0 ∷ e.0,
+    e.1,
+    (at, piece Pi 0 ∷ piece Right 0 ∷ e.0, refl, pi_via _ (piece Right 0 ∷ e.0) e.2),
+  )
 
   close_bracket : (b : Bracket) (p : Pending) (fs : List Frame) (x : Found) → ((y : Found) → Some_end (λ ps v. ends_in font fs v y ps))
       → Some_end (λ ps v. in_bracket font b (after_primary font p (ends_in font fs v)) x ps)
@@ -56,8 +59,16 @@ module _ (font : FontUnits) where
   close_bracket (First f n) p fs x rest = let e = close_comma p fs 0 (two_found f n x) rest in (piece Comma 0 ∷ e.0, e.1, e.2)
   close_bracket (Second f n y) p fs x rest = let e = close_right p fs 0 (two_found f n y x) rest in (piece Right 0 ∷ e.0, e.1, e.2)
   close_bracket (Each f y) p fs x rest =
-      let e = rest (disjoined p (most_found f y x)) in (piece Right 0 ∷ e.0, e.1, record { value = most_found f y x; rest = e.0;
-      read = no_further refl; goes = to_end font p (ends_in font fs e.1) (most_found f y x) e.0 e.2 })
+      let e = rest (disjoined p (most_found f y x)) in (
+        piece Right 0 ∷ e.0,
+        e.1,
+        record {
+          value = most_found f y x;
+          rest = e.0;
+          read = no_further refl;
+          goes = to_end font p (ends_in font fs e.1) (most_found f y x) e.0 e.2;
+        },
+      )
 
   pub close : (fs : List Frame) (x : Found) → Some_end (λ ps v. ends_in font fs v x ps)
   close [] x = ([], x, (refl, refl))
@@ -77,7 +88,7 @@ module _ (font : FontUnits) where
 
   pub comma_fits : (p : Pending) (fs : List Frame) (at : ℕ) (f : Found → Found)
       → Some_end (λ ps v. (n : ℕ) × (qs : List Piece) × (piece Comma at ∷ ps ≡ piece Comma n ∷ qs)
-          × Via (Whole font qs) (λ y rs. closes font (after_primary font p (ends_in font fs v)) (f y) rs))
+      × Via (Whole font qs) (λ y rs. closes font (after_primary font p (ends_in font fs v)) (f y) rs))
   comma_fits p fs at f = close_comma p fs at f (λ y. close fs y)
 
   -- the marks of which two make an operator, or that a `!` stands before
@@ -92,8 +103,12 @@ module _ (font : FontUnits) where
   HalfMode _ = Unit {0}
 
   close_wanted : (p : Pending) (fs : List Frame) → Tidy font p → Some_end (λ ps v. wants font p.power p (ends_in font fs v) ps)
-  close_wanted p fs t = let e = close_operand p fs (Ok pi_value) in (piece Pi 0 ∷ e.0, e.1, wants_primary font p.power p (ends_in font fs e.1)
-      (piece Pi 0 ∷ e.0) refl t (record { value = Ok pi_value; rest = e.0; read = of_pi refl; goes = e.2 }))
+  close_wanted p fs t = let e = close_operand p fs (Ok pi_value) in (
+    piece Pi 0 ∷ e.0,
+    e.1,
+    wants_primary font p.power p (ends_in font fs e.1)
+        (piece Pi 0 ∷ e.0) refl t (record { value = Ok pi_value; rest = e.0; read = of_pi refl; goes = e.2 }),
+  )
 
   close_number : (n : Decimal) (p : Pending) (fs : List Frame) → Some_end (λ ps v. in_number font n (after_primary font p (ends_in font fs v)) ps)
   close_number n p fs = let e = close_operand p fs (decimal_found font (Some units.Pt) n) in (piece (Measure units.Pt) 0 ∷ e.0, e.1, (n, refl, e.2))

@@ -95,8 +95,8 @@ feed_part (c ∷ cs) n p h =
     let two = and_is_both (is_ascii_digit c) (list_all is_ascii_digit cs) h in
     let a : feed (c ∷ cs) n ≡ feed cs (with_digit (c - 48) n) = rw (is_no_point c two.0, two.0) refl in
     let b : with_digit (c - 48) n
-            ≡ with_part_digit (c - 48) n = ap (λ (b : Bool). let m : Decimal = cond b (with_part_digit (c - 48) n) (with_whole_digit (c - 48) n) in m)
-            p in
+    ≡ with_part_digit (c - 48) n = ap (λ (b : Bool). let m : Decimal = cond b (with_part_digit (c - 48) n) (with_whole_digit (c - 48) n) in m)
+    p in
     a ∙ ap (feed cs) b ∙ feed_part cs (with_part_digit (c - 48) n) (still_pointed (c - 48) n p) two.1
 
 none_some : {A : Type 0} {a : A} → None ≡ Some a → ⊥
@@ -113,8 +113,8 @@ feed_digits (c ∷ cs) n m p h = by (λ n p h. feed_digits cs n m p h) (is_point
     by again false true e f =
         let a : feed (c ∷ cs) n ≡ feed cs (with_digit (c - 48) n) = rw (e, f) refl in
         let b : with_digit (c - 48) n
-                ≡ with_part_digit (c - 48) n
-                = ap (λ (b : Bool). let m : Decimal = cond b (with_part_digit (c - 48) n) (with_whole_digit (c - 48) n) in m) p in
+        ≡ with_part_digit (c - 48) n
+        = ap (λ (b : Bool). let m : Decimal = cond b (with_part_digit (c - 48) n) (with_whole_digit (c - 48) n) in m) p in
         digits_cons c cs f (again (with_part_digit (c - 48) n) (still_pointed (c - 48) n p) (sym (a ∙ ap (feed cs) b) ∙ h))
 
 -- a decimal with further digits behind its point
@@ -143,16 +143,16 @@ part_is (c ∷ cs) zero n e h =
     let two = and_is_both (is_ascii_digit c) (list_all is_ascii_digit cs) h in
     let full : nat_lt n.count 17 ≡ false = le-ltb n.count 17 (omega arith) in
     let same : with_part_digit (c - 48) n
-            ≡ n = ap (λ (b : Bool). let m : Decimal = cond b (record n { count = n.count + 1; part = 10 * n.part + (c - 48) }) n in m) full in
+    ≡ n = ap (λ (b : Bool). let m : Decimal = cond b (record n { count = n.count + 1; part = 10 * n.part + (c - 48) }) n in m) full in
     subst (λ (m : Decimal). PartIs n (part_after cs m) []) (sym same) (part_is cs zero n e two.1)
 part_is (c ∷ cs) (suc k) n e h =
     let two = and_is_both (is_ascii_digit c) (list_all is_ascii_digit cs) h in
     let room : nat_lt n.count 17 ≡ true = lt-ltb n.count 17 (omega arith) in
     let next : Decimal = record n { count = n.count + 1; part = 10 * n.part + (c - 48) } in
     let same : with_part_digit (c - 48) n
-            ≡ next = ap (λ (b : Bool). let m : Decimal = cond b (record n { count = n.count + 1; part = 10 * n.part + (c - 48) }) n in m) room in
+    ≡ next = ap (λ (b : Bool). let m : Decimal = cond b (record n { count = n.count + 1; part = 10 * n.part + (c - 48) }) n in m) room in
     subst (λ (m : Decimal). PartIs n (part_after cs m) (c ∷ take k cs)) (sym same) (part_more n (part_after cs next) c (take k cs) two.0
-        (part_is cs k next (omega arith) two.1))
+    (part_is cs k next (omega arith) two.1))
 
 -- ---- the whole text
 
@@ -179,7 +179,7 @@ feed_whole (c ∷ cs) n p w f = by (λ n p w f. feed_whole cs n p w f) (is_point
         let a : feed (c ∷ cs) n ≡ feed cs (with_digit (c - 48) n) = rw (e, all.0) refl in
         let b : read_of (c ∷ cs) n ≡ read_of cs (with_whole_digit (c - 48) n) = rw e refl in
         a ∙ ap (feed cs) (whole_digit (c - 48) n p) ∙ again (with_whole_digit (c - 48) n) p all.1 (subst AreDigits (part_cons c cs e) f)
-            ∙ ap Some (sym b)
+        ∙ ap Some (sym b)
 
 feed_all : (cs : List ℕ) (n m : Decimal) → n.pointed ≡ false → feed cs n ≡ Some m → AreDigits (whole_digits cs) × AreDigits (part_digits cs)
 feed_all [] n m p h = (refl, refl)
@@ -188,9 +188,11 @@ feed_all (c ∷ cs) n m p h = by (λ n p h. feed_all cs n m p h) (is_point c) (i
     by : ((n : Decimal) → n.pointed ≡ false → feed cs n ≡ Some m → AreDigits (whole_digits cs) × AreDigits (part_digits cs)) → (a b : Bool)
         → is_point c ≡ a → is_ascii_digit c ≡ b → AreDigits (whole_digits (c ∷ cs)) × AreDigits (part_digits (c ∷ cs))
     by again true b e f =
-        let a : feed (c ∷ cs) n ≡ feed cs (with_point n) = rw (e, p) refl in
-        (subst AreDigits (sym (whole_point c cs e)) refl, subst AreDigits (sym (part_point c cs e)) (feed_digits cs (with_point n) m
-            refl (sym a ∙ h)))
+        let a : feed (c ∷ cs) n ≡ feed cs (with_point n) = rw (e, p) refl in (
+          subst AreDigits (sym (whole_point c cs e)) refl,
+          subst AreDigits (sym (part_point c cs e)) (feed_digits cs (with_point n) m
+              refl (sym a ∙ h)),
+        )
     by again false false e f = absurd (none_some (sym (let g : feed (c ∷ cs) n ≡ None = rw (e, f) refl in g) ∙ h))
     by again false true e f =
         let a : feed (c ∷ cs) n ≡ feed cs (with_digit (c - 48) n) = rw (e, f) refl in
@@ -229,7 +231,7 @@ read_is (c ∷ cs) n v at e none nought place w f = by (λ n v e none nought pla
     by again false p =
         let all = and_is_both (is_ascii_digit c) (list_all is_ascii_digit (whole_digits cs)) (subst AreDigits (whole_cons c cs p) w) in
         let h = again (with_whole_digit (c - 48) n) (v * 10 + digit_value c) (kept_whole n.whole v c e all.0) none nought place all.1
-                (subst AreDigits (part_cons c cs p) f) in
+        (subst AreDigits (part_cons c cs p) f) in
         let b : read_of (c ∷ cs) n ≡ read_of cs (with_whole_digit (c - 48) n) = rw p refl in
         subst (λ (m : Decimal). ReadIs v at (c ∷ cs) m) (sym b) (record {
           whole = h.whole ∙ ap (λ ds. min (digits_value_after 10 v ds) 1073741824) (sym (whole_cons c cs p));
@@ -276,8 +278,12 @@ text_read font ps at n e =
     let all = feed_all text (no_digits false at) n refl f in
     let is : Some (read_of text (no_digits false at)) ≡ Some n = sym (feed_whole text (no_digits false at) refl all.0 all.1) ∙ f in
     let same : read_of text (no_digits false at) ≡ n = ap (λ (o : Option Decimal). elim o as (λ _. Decimal) [ None ↦ n | Some m ↦ m ]) is in
-    record { whole = all.0; part = all.1; value = value_of font text at n (subst (ReadIs 0 at text) same (read_is text (no_digits false at) 0 at refl
-        refl refl refl all.0 all.1)) }
+    record {
+      whole = all.0;
+      part = all.1;
+      value = value_of font text at n (subst (ReadIs 0 at text) same (read_is text (no_digits false at) 0 at refl
+          refl refl refl all.0 all.1));
+    }
 
 all_of : (text : List ℕ) → is_decimal text ≡ true
     → AreDigits (whole_digits text) × AreDigits (part_digits text) × (nat_lt 0 (length (whole_digits text) + length (part_digits text)) ≡ true)
@@ -306,10 +312,10 @@ pub digits_read : (font : FontUnits) (qs : List Piece) (d at : ℕ) (unit : Opti
 digits_read font qs d at unit n small e =
     let ps = piece (Digit d) at ∷ qs in
     let f : decimal_from ps (no_digits false at) ≡ Some n = ap (λ (b : Bool). cond b (decimal_from qs (with_digit d (no_digits false at))) None) small
-            ∙ e in
+    ∙ e in
     let t = text_read font ps at n f in
     let long : length (whole_digits (decimal_text ps)) ≡ suc (length (whole_digits (decimal_text qs))) = ap length
-            (whole_cons (48 + d) (decimal_text qs) (digit_no_point d)) in
+    (whole_cons (48 + d) (decimal_text qs) (digit_no_point d)) in
     record { text = some_digits (decimal_text ps) t.whole t.part (omega (arith, long)); value = t.value unit }
 
 pub point_read : (font : FontUnits) (qs : List Piece) (d at k : ℕ) (unit : Option AUnit) (n : Decimal) → nat_lt d 10 ≡ true
@@ -317,10 +323,10 @@ pub point_read : (font : FontUnits) (qs : List Piece) (d at k : ℕ) (unit : Opt
 point_read font qs d at k unit n small e =
     let ps = piece Point at ∷ piece (Digit d) k ∷ qs in
     let f : decimal_from ps (no_digits false at) ≡ Some n = ap (λ (b : Bool). cond b (decimal_from qs (with_digit d (no_digits true at))) None) small
-            ∙ e in
+    ∙ e in
     let t = text_read font ps at n f in
     let long : length (part_digits (decimal_text ps)) ≡ suc (length (decimal_text qs)) = ap length (part_point 46 ((48 + d) ∷ decimal_text qs) refl)
-            in
+    in
     record { text = some_digits (decimal_text ps) t.whole t.part (omega (arith, long)); value = t.value unit }
 
 -- ---- from texts to values
@@ -343,9 +349,9 @@ module _ (font : FontUnits) (ps : List Piece) where
       let f : decimal_from rs (no_digits false at) ≡ Some n = text_fed rs at all.0 all.1 in
       let small = small_digit d (whole_digits (decimal_text qs)) (subst AreDigits (whole_cons (48 + d) (decimal_text qs) (digit_no_point d)) all.0) in
       let g : decimal_from qs (with_digit d (no_digits false at))
-              ≡ Some n = sym (ap (λ (b : Bool). cond b (decimal_from qs (with_digit d (no_digits false at))) None) small) ∙ f in
+      ≡ Some n = sym (ap (λ (b : Bool). cond b (decimal_from qs (with_digit d (no_digits false at))) None) small) ∙ f in
       subst (λ x. Primary font ps x (after_unit (after_decimal qs))) (sym ((text_read font rs at n f).value (next_unit (after_decimal qs))))
-          (of_digits e small g)
+      (of_digits e small g)
 
   point_digit : (d at k : ℕ) (qs : List Piece) → skip ps ≡ piece Point at ∷ piece (Digit d) k ∷ qs
       → is_decimal (decimal_text (piece Point at ∷ piece (Digit d) k ∷ qs)) ≡ true → Comes (piece Point at) (piece (Digit d) k ∷ qs)
@@ -356,9 +362,9 @@ module _ (font : FontUnits) (ps : List Piece) where
       let f : decimal_from rs (no_digits false at) ≡ Some n = text_fed rs at all.0 all.1 in
       let small = small_digit d (decimal_text qs) (subst AreDigits (part_point 46 ((48 + d) ∷ decimal_text qs) refl) all.1) in
       let g : decimal_from qs (with_digit d (no_digits true at))
-              ≡ Some n = sym (ap (λ (b : Bool). cond b (decimal_from qs (with_digit d (no_digits true at))) None) small) ∙ f in
+      ≡ Some n = sym (ap (λ (b : Bool). cond b (decimal_from qs (with_digit d (no_digits true at))) None) small) ∙ f in
       subst (λ x. Primary font ps x (after_unit (after_decimal qs))) (sym ((text_read font rs at n f).value (next_unit (after_decimal qs))))
-          (of_point e small g)
+      (of_point e small g)
 
   two_points : (cs : List ℕ) → is_decimal (46 ∷ 46 ∷ cs) ≡ true → ⊥
   two_points cs e = let all = all_of (46 ∷ 46 ∷ cs) e in true≢false
@@ -380,5 +386,5 @@ module _ (font : FontUnits) (ps : List Piece) where
 -- a decimal's text is read
 pub decimal_reads : (font : FontUnits) (ps qs : List Piece) (p : Piece) → skip ps ≡ p ∷ qs → is_decimal (decimal_text (p ∷ qs)) ≡ true
     → Primary font ps (placed p.at (decimal_in font (next_unit (after_decimal (p ∷ qs))) (decimal_value (decimal_text (p ∷ qs)))))
-        (after_unit (after_decimal (p ∷ qs)))
+    (after_unit (after_decimal (p ∷ qs)))
 decimal_reads font ps qs p e is = comes font ps p.mark p.at qs e is

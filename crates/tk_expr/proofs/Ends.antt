@@ -169,8 +169,11 @@ module _ (font : FontUnits) where
       steps (outside (two_found f n x y) p fs s) (λ ps v. closed_same (after_primary font p (ends_in font fs v)) (two_found f n x y) at ps)
       (kept_right (Second f n x) p fs unit at (two_found f n x y) s u t) (λ le. omega arith)
   right_in (Each f x) p fs y unit at s u t =
-      steps (outside (most_found f x y) p fs s) (λ ps v. (λ h. further_right (after_primary font p (ends_in font fs v)) h.read h.goes, λ h.
-      record { value = most_found f x y; rest = ps; read = no_further refl; goes = h })) (kept_right (Each f x) p fs unit at (most_found f x y) s u t)
+      steps (outside (most_found f x y) p fs s) (λ ps v. (
+        λ h. further_right (after_primary font p (ends_in font fs v)) h.read h.goes,
+        λ h.
+            record { value = most_found f x y; rest = ps; read = no_further refl; goes = h },
+      )) (kept_right (Each f x) p fs unit at (most_found f x y) s u t)
       (λ le. omega arith)
 
   pub right_is : (fs : List Frame) (y : Found) (unit : Bool) (at : ℕ) (s : State) → s.unit ≡ unit → FramesTidy font fs
@@ -189,9 +192,12 @@ module _ (font : FontUnits) where
       (refl, λ k. right_fits font p fs k (one_found f n y))
   comma_in (First f n) p fs y unit at s u t =
       steps (wanted_in (Inside (Second f n y) p ∷ fs) s)
-      (λ ps v. let k = after_primary font p (ends_in font fs v) in let w = fresh_whole font (in_bracket font (Second f n y) k) ps in (λ (i, qs, b, h).
-      w.0 (front_from (λ _ _ ps. Via (Whole font ps) (in_bracket font (Second f n y) k)) Comma Comma i at qs ps (sym b) h), λ h.
-      (at, ps, refl, w.1 h))) (kept_comma (First f n) (Second f n y) p fs unit at s u (λ h. h) (λ i h. h) t) (λ le. le)
+      (λ ps v. let k = after_primary font p (ends_in font fs v) in let w = fresh_whole font (in_bracket font (Second f n y) k) ps in (
+        λ (i, qs, b, h).
+            w.0 (front_from (λ _ _ ps. Via (Whole font ps) (in_bracket font (Second f n y) k)) Comma Comma i at qs ps (sym b) h),
+        λ h.
+            (at, ps, refl, w.1 h),
+      )) (kept_comma (First f n) (Second f n y) p fs unit at s u (λ h. h) (λ i h. h) t) (λ le. le)
   comma_in (Second f n x) p fs y unit at s u t =
       miscounts n (λ ps v h. closed_other Comma refl refl (after_primary font p (ends_in font fs v)) (two_found f n x y) at ps h)
       (refl, λ k. right_fits font p fs k (two_found f n x y))
@@ -212,8 +218,10 @@ module _ (font : FontUnits) where
   colon_is [] y unit at s u t = refuses (λ ps v h. end_of_list font Colon at ps refl h.1) tt
   colon_is (Inside b p ∷ fs) y unit at s u t = refuses (λ ps v h. no_colon b (after_primary font p (ends_in font fs v)) y at ps h) tt
   colon_is (Then c ∷ fs) y unit at s u t =
-      steps (wanted_in (Else c y ∷ fs) s) (λ ps v. let w = fresh_whole font (λ z rs. ends_in font fs v (choice_found c y z) rs) ps in
-      (λ (i, qs, b, h). w.0 (front_from (λ _ _ ps. Via (Whole font ps) (λ z rs. ends_in font fs v (choice_found c y z) rs)) Colon Colon i at qs ps
-      (sym b) h), λ h. (at, ps, refl, w.1 h))) (kept_colon c y fs unit at s u t) (λ le. le)
+      steps (wanted_in (Else c y ∷ fs) s) (λ ps v. let w = fresh_whole font (λ z rs. ends_in font fs v (choice_found c y z) rs) ps in (
+        λ (i, qs, b, h). w.0 (front_from (λ _ _ ps. Via (Whole font ps) (λ z rs. ends_in font fs v (choice_found c y z) rs)) Colon Colon i at qs ps
+            (sym b) h),
+        λ h. (at, ps, refl, w.1 h),
+      )) (kept_colon c y fs unit at s u t) (λ le. le)
   colon_is (Else c x ∷ fs) y unit at s u t =
       sure_behind c x fs unit Colon at _ _ _ _ (λ name os. refl) (colon_is fs (choice_found c x y) unit at s u t)

@@ -132,8 +132,12 @@ module _ (font : FontUnits) where
   last_in (Half m) p fs unit v (i, qs, e, h) = absurd (no_piece e)
   last_in (Named b) p fs unit v (i, qs, e, h) = absurd (no_piece e)
   last_in (Dot place) p fs unit v (d, i, qs, e, small, h) = absurd (no_piece e)
-  last_in (Number n) p fs unit v (m, e, h) = record { value = plain_value font n; is = refl; ends = settled p (ends_in font fs v) (plain_value font n)
-      (subst (λ m. after_primary font p (ends_in font fs v) (plain_value font m) []) (sym (same_some {a = n} {b = m} refl e)) h) }
+  last_in (Number n) p fs unit v (m, e, h) = record {
+    value = plain_value font n;
+    is = refl;
+    ends = settled p (ends_in font fs v) (plain_value font n)
+        (subst (λ m. after_primary font p (ends_in font fs v) (plain_value font m) []) (sym (same_some {a = n} {b = m} refl e)) h);
+  }
   last_in (Measured n) p fs unit v h = record { value = plain_value font n; is = refl; ends = settled p (ends_in font fs v) (plain_value font n) h }
   last_in (After x) p fs unit v h = record { value = x; is = refl; ends = settled p (ends_in font fs v) x h }
 
@@ -147,9 +151,12 @@ module _ (font : FontUnits) where
   completes_as (Half m) p fs v x e h = absurd (some_not_none refl e)
   completes_as (Named b) p fs v x e h = absurd (some_not_none refl e)
   completes_as (Dot place) p fs v x e h = absurd (some_not_none refl e)
-  completes_as (Number n) p fs v x e h =
-      (n, refl, to_end font p (ends_in font fs v) (plain_value font n) [] (subst (λ x. ends_in font fs v (disjoined p x) [])
-      (sym (same_some {a = plain_value font n} {b = x} refl e)) h))
+  completes_as (Number n) p fs v x e h = (
+    n,
+    refl,
+    to_end font p (ends_in font fs v) (plain_value font n) [] (subst (λ x. ends_in font fs v (disjoined p x) [])
+        (sym (same_some {a = plain_value font n} {b = x} refl e)) h),
+  )
   completes_as (Measured n) p fs v x e h =
       to_end font p (ends_in font fs v) (plain_value font n) [] (subst (λ x. ends_in font fs v (disjoined p x) [])
       (sym (same_some {a = plain_value font n} {b = x} refl e)) h)
@@ -179,8 +186,11 @@ module _ (font : FontUnits) where
     where
       by : (o : Option Found) → operand font s.mode ≡ o → FinishIs (λ v. Completes font s [] v) s.unit end (finish_behind end o s)
       by None e = lacks (λ v h. some_not_none e (last_of s v h).is)
-      by (Some x) e = finish_as (λ v. (λ h. let l = last_of s v h in subst (λ x. ends_in font s.frames v (disjoined s.pending x) [])
-          (same_some l.is e) l.ends, λ h. completes_as s.mode s.pending s.frames v x e h)) (frames_end s.frames (disjoined s.pending x) s.unit end)
+      by (Some x) e = finish_as (λ v. (
+        λ h. let l = last_of s v h in subst (λ x. ends_in font s.frames v (disjoined s.pending x) [])
+            (same_some l.is e) l.ends,
+        λ h. completes_as s.mode s.pending s.frames v x e h,
+      )) (frames_end s.frames (disjoined s.pending x) s.unit end)
 
   -- the value is the only one
   one_end : (fs : List Frame) (v w x : Found) → ends_in font fs v x [] → ends_in font fs w x [] → v ≡ w
@@ -194,4 +204,4 @@ module _ (font : FontUnits) where
       let l = last_of s v h in
       let m = last_of s w k in
       one_end s.frames v w (disjoined s.pending l.value) l.ends (subst (λ x. ends_in font s.frames w (disjoined s.pending x) [])
-          (same_some m.is l.is) m.ends)
+      (same_some m.is l.is) m.ends)

@@ -161,11 +161,29 @@ module _ (font : FontUnits) where
   operator_or {x = x} {m = m} {at = at} {ps = ps} k g (on_radians {qs = qs} {at = n} e r) h =
       inr (front_to (OperatorAt Postfixes k x) m Radian at n ps qs g e (record { value = _; rest = _; read = r; goes = h }))
   operator_or {x = x} {m = m} {at = at} {ps = ps} k g (on_power {qs = qs} {at = n} e w r) h =
-      inr (front_to (OperatorAt Powers k x) m Caret at n ps qs g e (record { value = _; rest = _; read = w; goes = record { value = _; rest = _;
-      read = r; goes = h } }))
+      inr (front_to (OperatorAt Powers k x) m Caret at n ps qs g e (record {
+        value = _;
+        rest = _;
+        read = w;
+        goes = record {
+          value = _;
+          rest = _;
+          read = r;
+          goes = h;
+        };
+      }))
   operator_or {x = x} {m = m} {at = at} {ps = ps} k g (on_operator {l = l} {qs = qs} o n is c e w r) h =
-      inr (of_level l o k x m at n ps qs g is c e (record { value = _; rest = _; read = w; goes = record { value = _; rest = _; read = r;
-      goes = h } }))
+      inr (of_level l o k x m at n ps qs g is c e (record {
+        value = _;
+        rest = _;
+        read = w;
+        goes = record {
+          value = _;
+          rest = _;
+          read = r;
+          goes = h;
+        };
+      }))
   operator_or {x = x} {m = m} {at = at} {ps = ps} k g (on_comparison {qs = qs} o n is e w) h =
       inr (comparison_at o k x m at n ps qs g (ap compares is) e (record { value = _; rest = _; read = w; goes = h }))
 
@@ -178,31 +196,88 @@ module _ (font : FontUnits) where
       → Via (Goes font l x (piece m at ∷ ps)) k
   operator_on Postfixes k x (Measure u) at ps h = record { value = h.value; rest = h.rest; read = on_unit refl h.read; goes = h.goes }
   operator_on Postfixes k x Radian at ps h = record { value = h.value; rest = h.rest; read = on_radians refl h.read; goes = h.goes }
-  operator_on Powers k x Caret at ps h = record { value = h.goes.value; rest = h.goes.rest; read = on_power refl h.read h.goes.read;
-      goes = h.goes.goes }
-  operator_on Products k x Star at ps h = record { value = h.goes.value; rest = h.goes.rest; read = on_operator Multiply at refl refl refl h.read
-      h.goes.read; goes = h.goes.goes }
-  operator_on Products k x Slash at ps h = record { value = h.goes.value; rest = h.goes.rest; read = on_operator Divide at refl refl refl h.read
-      h.goes.read; goes = h.goes.goes }
-  operator_on Sums k x Plus at ps h = record { value = h.goes.value; rest = h.goes.rest; read = on_operator Add at refl refl refl h.read h.goes.read;
-      goes = h.goes.goes }
-  operator_on Sums k x Minus at ps h = record { value = h.goes.value; rest = h.goes.rest; read = on_operator Subtract at refl refl refl h.read
-      h.goes.read; goes = h.goes.goes }
-  operator_on Comparisons k x Equals at ps (n, qs, e, h) = record { value = _; rest = h.rest; read = on_comparison Same at refl
-      (n, ap (λ l. piece Equals at ∷ l) e) h.read; goes = h.goes }
-  operator_on Comparisons k x Bang at ps (n, qs, e, h) = record { value = _; rest = h.rest; read = on_comparison Differs at refl
-      (n, ap (λ l. piece Bang at ∷ l) e) h.read; goes = h.goes }
+  operator_on Powers k x Caret at ps h = record {
+    value = h.goes.value;
+    rest = h.goes.rest;
+    read = on_power refl h.read h.goes.read;
+    goes = h.goes.goes;
+  }
+  operator_on Products k x Star at ps h = record {
+    value = h.goes.value;
+    rest = h.goes.rest;
+    read = on_operator Multiply at refl refl refl h.read
+        h.goes.read;
+    goes = h.goes.goes;
+  }
+  operator_on Products k x Slash at ps h = record {
+    value = h.goes.value;
+    rest = h.goes.rest;
+    read = on_operator Divide at refl refl refl h.read
+        h.goes.read;
+    goes = h.goes.goes;
+  }
+  operator_on Sums k x Plus at ps h = record {
+    value = h.goes.value;
+    rest = h.goes.rest;
+    read = on_operator Add at refl refl refl h.read h.goes.read;
+    goes = h.goes.goes;
+  }
+  operator_on Sums k x Minus at ps h = record {
+    value = h.goes.value;
+    rest = h.goes.rest;
+    read = on_operator Subtract at refl refl refl h.read
+        h.goes.read;
+    goes = h.goes.goes;
+  }
+  operator_on Comparisons k x Equals at ps (n, qs, e, h) = record {
+    value = _;
+    rest = h.rest;
+    read = on_comparison Same at refl
+        (n, ap (λ l. piece Equals at ∷ l) e) h.read;
+    goes = h.goes;
+  }
+  operator_on Comparisons k x Bang at ps (n, qs, e, h) = record {
+    value = _;
+    rest = h.rest;
+    read = on_comparison Differs at refl
+        (n, ap (λ l. piece Bang at ∷ l) e) h.read;
+    goes = h.goes;
+  }
   operator_on Comparisons k x Less at ps (inl h) = record { value = _; rest = h.rest; read = on_comparison Below at refl refl h.read; goes = h.goes }
-  operator_on Comparisons k x Less at ps (inr (n, qs, e, h)) = record { value = _; rest = h.rest; read = on_comparison AtMost at refl
-      (n, ap (λ l. piece Less at ∷ l) e) h.read; goes = h.goes }
-  operator_on Comparisons k x Greater at ps (inl h) = record { value = _; rest = h.rest; read = on_comparison Above at refl refl h.read;
-      goes = h.goes }
-  operator_on Comparisons k x Greater at ps (inr (n, qs, e, h)) = record { value = _; rest = h.rest; read = on_comparison AtLeast at refl
-      (n, ap (λ l. piece Greater at ∷ l) e) h.read; goes = h.goes }
-  operator_on Conjunctions k x Ampersand at ps (n, qs, e, h) = record { value = h.goes.value; rest = h.goes.rest; read = on_operator Both at refl refl
-      (n, ap (λ l. piece Ampersand at ∷ l) e) h.read h.goes.read; goes = h.goes.goes }
-  operator_on Disjunctions k x Bar at ps (n, qs, e, h) = record { value = h.goes.value; rest = h.goes.rest; read = on_operator Either at refl refl
-      (n, ap (λ l. piece Bar at ∷ l) e) h.read h.goes.read; goes = h.goes.goes }
+  operator_on Comparisons k x Less at ps (inr (n, qs, e, h)) = record {
+    value = _;
+    rest = h.rest;
+    read = on_comparison AtMost at refl
+        (n, ap (λ l. piece Less at ∷ l) e) h.read;
+    goes = h.goes;
+  }
+  operator_on Comparisons k x Greater at ps (inl h) = record {
+    value = _;
+    rest = h.rest;
+    read = on_comparison Above at refl refl h.read;
+    goes = h.goes;
+  }
+  operator_on Comparisons k x Greater at ps (inr (n, qs, e, h)) = record {
+    value = _;
+    rest = h.rest;
+    read = on_comparison AtLeast at refl
+        (n, ap (λ l. piece Greater at ∷ l) e) h.read;
+    goes = h.goes;
+  }
+  operator_on Conjunctions k x Ampersand at ps (n, qs, e, h) = record {
+    value = h.goes.value;
+    rest = h.goes.rest;
+    read = on_operator Both at refl refl
+        (n, ap (λ l. piece Ampersand at ∷ l) e) h.read h.goes.read;
+    goes = h.goes.goes;
+  }
+  operator_on Disjunctions k x Bar at ps (n, qs, e, h) = record {
+    value = h.goes.value;
+    rest = h.goes.rest;
+    read = on_operator Either at refl refl
+        (n, ap (λ l. piece Bar at ∷ l) e) h.read h.goes.read;
+    goes = h.goes.goes;
+  }
   operator_on _ k x _ at ps h = elim h [ ]
 
   -- ---- a choice in front
@@ -216,8 +291,12 @@ module _ (font : FontUnits) where
       → k c (piece m at ∷ ps) ⊎ ChoiceAt k c m at ps
   choice_or k g unasked h = inl h
   choice_or {c = c} {m = m} {at = at} {ps = ps} k g (asked {qs = qs} {rs = rs} {ss = ss} {m = i} {n = n} q t e u) h =
-      inr (front_to (ChoiceAt k c) m Question at i ps qs g q (record { value = _; rest = rs; read = t;
-      goes = (n, ss, e, record { value = _; rest = _; read = u; goes = h }) }))
+      inr (front_to (ChoiceAt k c) m Question at i ps qs g q (record {
+        value = _;
+        rest = rs;
+        read = t;
+        goes = (n, ss, e, record { value = _; rest = _; read = u; goes = h });
+      }))
 
   pub choice_in : {c : Found} (m : Mark) (at : ℕ) (ps : List Piece) (k : Behind) → is_gap m ≡ false → Via (Asks font c (piece m at ∷ ps)) k
       → k c (piece m at ∷ ps) ⊎ ChoiceAt k c m at ps
@@ -250,11 +329,34 @@ module _ (font : FontUnits) where
   primary_of {m = m} {at = at} {ps = ps} k g (of_one {qs = qs} {rs = rs} {us = us} {f = f} {at = i} {m = j} {n = n} e l t r) h =
       front_to (PrimaryAt k) m (Single f) at i ps qs g e (j, rs, l, record { value = _; rest = _; read = t; goes = (n, us, r, h) })
   primary_of {m = m} {at = at} {ps = ps} k g (of_two {qs = qs} {rs = rs} {us = us} {ws = ws} {f = f} {at = i} {k = j} {m = a} {n = n} e l t c u r) h =
-      front_to (PrimaryAt k) m (Double f) at i ps qs g e (j, rs, l, record { value = _; rest = _; read = t;
-      goes = (a, us, c, record { value = _; rest = _; read = u; goes = (n, ws, r, h) }) })
+      front_to (PrimaryAt k) m (Double f) at i ps qs g e (
+        j,
+        rs,
+        l,
+        record {
+          value = _;
+          rest = _;
+          read = t;
+          goes = (a, us, c, record { value = _; rest = _; read = u; goes = (n, ws, r, h) });
+        },
+      )
   primary_of {m = m} {at = at} {ps = ps} k g (of_most {qs = qs} {rs = rs} {f = f} {at = i} {k = j} e l t a) h =
-      front_to (PrimaryAt k) m (Several f) at i ps qs g e (j, rs, l, record { value = _; rest = _; read = t; goes = record { value = _; rest = _;
-      read = a; goes = h } })
+      front_to (PrimaryAt k) m (Several f) at i ps qs g e (
+        j,
+        rs,
+        l,
+        record {
+          value = _;
+          rest = _;
+          read = t;
+          goes = record {
+            value = _;
+            rest = _;
+            read = a;
+            goes = h;
+          };
+        },
+      )
 
   pub primary_in : (m : Mark) (at : ℕ) (ps : List Piece) (k : Behind) → is_gap m ≡ false → Via (Primary font (piece m at ∷ ps)) k
       → PrimaryAt k m at ps
@@ -262,12 +364,21 @@ module _ (font : FontUnits) where
 
   pub primary_on : (k : Behind) (m : Mark) (at : ℕ) (ps : List Piece) → PrimaryAt k m at ps → Via (Primary font (piece m at ∷ ps)) k
   primary_on k (Digit d) at ps (small, (n, f, h)) = record { value = _; rest = _; read = of_digits refl small f; goes = h }
-  primary_on k Point at ps (d, j, qs, e, small, (n, f, h)) = record { value = _; rest = _; read = of_point (ap (λ l. piece Point at ∷ l) e)
-      small f; goes = h }
+  primary_on k Point at ps (d, j, qs, e, small, (n, f, h)) = record {
+    value = _;
+    rest = _;
+    read = of_point (ap (λ l. piece Point at ∷ l) e)
+        small f;
+    goes = h;
+  }
   primary_on k Pi at ps h = record { value = _; rest = _; read = of_pi refl; goes = h }
   primary_on k (Single f) at ps (j, rs, l, h) = record { value = _; rest = _; read = of_one refl l h.read h.goes.2; goes = h.goes.3 }
-  primary_on k (Double f) at ps (j, rs, l, h) = record { value = _; rest = _; read = of_two refl l h.read h.goes.2 h.goes.3.read h.goes.3.goes.2;
-      goes = h.goes.3.goes.3 }
+  primary_on k (Double f) at ps (j, rs, l, h) = record {
+    value = _;
+    rest = _;
+    read = of_two refl l h.read h.goes.2 h.goes.3.read h.goes.3.goes.2;
+    goes = h.goes.3.goes.3;
+  }
   primary_on k (Several f) at ps (j, rs, l, h) = record { value = _; rest = _; read = of_most refl l h.read h.goes.read; goes = h.goes.goes }
   primary_on k Left at ps h = record { value = _; rest = _; read = of_parenthesis refl h.read h.goes.2; goes = h.goes.3 }
   primary_on k _ at ps h = elim h [ ]

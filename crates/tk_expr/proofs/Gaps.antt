@@ -73,10 +73,20 @@ module _ (font : FontUnits) where
   goes_alike k pass e (on_unit b r) h = record { value = _; rest = _; read = on_unit (sym e ∙ b) r; goes = h }
   goes_alike k pass e (on_radians b r) h = record { value = _; rest = _; read = on_radians (sym e ∙ b) r; goes = h }
   goes_alike k pass e (on_power b w r) h = record { value = _; rest = _; read = on_power (sym e ∙ b) w r; goes = h }
-  goes_alike {ps = ps} {qs = qs} k pass e (on_operator {qs = us} o at l c b w r) h = record { value = _; rest = _; read = on_operator o at l c
-      (stands_alike o at ps qs us e b) w r; goes = h }
-  goes_alike {ps = ps} {qs = qs} k pass e (on_comparison {qs = us} o at l b w) h = record { value = _; rest = _; read = on_comparison o at l
-      (stands_alike o at ps qs us e b) w; goes = h }
+  goes_alike {ps = ps} {qs = qs} k pass e (on_operator {qs = us} o at l c b w r) h = record {
+    value = _;
+    rest = _;
+    read = on_operator o at l c
+        (stands_alike o at ps qs us e b) w r;
+    goes = h;
+  }
+  goes_alike {ps = ps} {qs = qs} k pass e (on_comparison {qs = us} o at l b w) h = record {
+    value = _;
+    rest = _;
+    read = on_comparison o at l
+        (stands_alike o at ps qs us e b) w;
+    goes = h;
+  }
 
   asks_alike : {x y : Found} {ps qs rs : List Piece} (k : Behind) → Passes k → Alike ps qs → Asks font x ps y rs → k y rs → Via (Asks font x qs) k
   asks_alike {x = x} {ps = ps} {qs = qs} k pass e unasked h = record { value = _; rest = _; read = unasked; goes = pass x ps qs e h }

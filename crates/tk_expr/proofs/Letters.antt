@@ -39,8 +39,8 @@ letters_join (t ∷ ts) c at = join_kind t.kind t.at ts (letters_join ts) c at
 
 run_of : (kind : Kind) (at : ℕ) (ts : List Tok) → is_letter_kind kind ≡ true
     → lumps_of (record { kind = kind; at = at } ∷ ts)
-        ≡ Letters (map letter_of (take (prefix_len is_letter_tok (record { kind = kind; at = at } ∷ ts)) (record { kind = kind; at = at } ∷ ts))) at
-        ∷ lumps_of (drop (prefix_len is_letter_tok (record { kind = kind; at = at } ∷ ts)) (record { kind = kind; at = at } ∷ ts))
+    ≡ Letters (map letter_of (take (prefix_len is_letter_tok (record { kind = kind; at = at } ∷ ts)) (record { kind = kind; at = at } ∷ ts))) at
+    ∷ lumps_of (drop (prefix_len is_letter_tok (record { kind = kind; at = at } ∷ ts)) (record { kind = kind; at = at } ∷ ts))
 run_of (Char c) at ts e = rw (e, one-add) (letters_join ts c at)
 run_of (Word n) at ts e = absurd (cc)
 run_of (Symbol d) at ts e = absurd (cc)

@@ -199,23 +199,44 @@ module _ (font : FontUnits) where
   -- ---- an operand with nothing that waits
 
   pub sum_parts : (k : Behind) (ps : List Piece) → Via (Part font Sums ps) k ↔ Via (Part font Products ps) (λ x qs. Via (Goes font Products x qs) k)
-  sum_parts k ps = (λ v. by v.read v.goes, λ v. record { value = v.goes.value; rest = v.goes.rest; read = product_part (group v.read v.goes.read);
-      goes = v.goes.goes })
+  sum_parts k ps = (
+    λ v. by v.read v.goes,
+    λ v. record {
+      value = v.goes.value;
+      rest = v.goes.rest;
+      read = product_part (group v.read v.goes.read);
+      goes = v.goes.goes;
+    },
+  )
     where
       by : {y : Found} {qs : List Piece} → Part font Sums ps y qs → k y qs → Via (Part font Products ps) (λ x qs. Via (Goes font Products x qs) k)
       by (product_part (group p r)) h = record { value = _; rest = _; read = p; goes = record { value = _; rest = _; read = r; goes = h } }
 
   comparison_parts : (k : Behind) (ps : List Piece) → Via (Part font Comparisons ps) k ↔ Via (Part font Sums ps) (λ x qs. Via (Goes font Sums x qs) k)
-  comparison_parts k ps = (λ v. by v.read v.goes, λ v. record { value = v.goes.value; rest = v.goes.rest; read = sum_part (group v.read v.goes.read);
-      goes = v.goes.goes })
+  comparison_parts k ps = (
+    λ v. by v.read v.goes,
+    λ v. record {
+      value = v.goes.value;
+      rest = v.goes.rest;
+      read = sum_part (group v.read v.goes.read);
+      goes = v.goes.goes;
+    },
+  )
     where
       by : {y : Found} {qs : List Piece} → Part font Comparisons ps y qs → k y qs → Via (Part font Sums ps) (λ x qs. Via (Goes font Sums x qs) k)
       by (sum_part (group p r)) h = record { value = _; rest = _; read = p; goes = record { value = _; rest = _; read = r; goes = h } }
 
   conjunction_parts : (k : Behind) (ps : List Piece)
       → Via (Part font Conjunctions ps) k ↔ Via (Part font Comparisons ps) (λ x qs. Via (Goes font Comparisons x qs) k)
-  conjunction_parts k ps = (λ v. by v.read v.goes, λ v. record { value = v.goes.value; rest = v.goes.rest;
-      read = comparison_part (group v.read v.goes.read); goes = v.goes.goes })
+  conjunction_parts k ps = (
+    λ v. by v.read v.goes,
+    λ v. record {
+      value = v.goes.value;
+      rest = v.goes.rest;
+      read = comparison_part (group v.read v.goes.read);
+      goes = v.goes.goes;
+    },
+  )
     where
       by : {y : Found} {qs : List Piece} → Part font Conjunctions ps y qs → k y qs
           → Via (Part font Comparisons ps) (λ x qs. Via (Goes font Comparisons x qs) k)
@@ -223,8 +244,15 @@ module _ (font : FontUnits) where
 
   disjunction_parts : (k : Behind) (ps : List Piece)
       → Via (Part font Disjunctions ps) k ↔ Via (Part font Conjunctions ps) (λ x qs. Via (Goes font Conjunctions x qs) k)
-  disjunction_parts k ps = (λ v. by v.read v.goes, λ v. record { value = v.goes.value; rest = v.goes.rest;
-      read = conjunction_part (group v.read v.goes.read); goes = v.goes.goes })
+  disjunction_parts k ps = (
+    λ v. by v.read v.goes,
+    λ v. record {
+      value = v.goes.value;
+      rest = v.goes.rest;
+      read = conjunction_part (group v.read v.goes.read);
+      goes = v.goes.goes;
+    },
+  )
     where
       by : {y : Found} {qs : List Piece} → Part font Disjunctions ps y qs → k y qs
           → Via (Part font Conjunctions ps) (λ x qs. Via (Goes font Conjunctions x qs) k)
@@ -232,13 +260,30 @@ module _ (font : FontUnits) where
 
   whole_parts : (k : Behind) (ps : List Piece)
       → Via (Whole font ps) k ↔ Via (Part font Disjunctions ps) (λ x qs. Via (Goes font Disjunctions x qs) (after_disjunction font k))
-  whole_parts k ps = (λ v. by v.read v.goes, λ v. record { value = v.goes.goes.value; rest = v.goes.goes.rest; read = whole (group v.read v.goes.read)
-      v.goes.goes.read; goes = v.goes.goes.goes })
+  whole_parts k ps = (
+    λ v. by v.read v.goes,
+    λ v. record {
+      value = v.goes.goes.value;
+      rest = v.goes.goes.rest;
+      read = whole (group v.read v.goes.read)
+          v.goes.goes.read;
+      goes = v.goes.goes.goes;
+    },
+  )
     where
       by : {y : Found} {qs : List Piece} → Whole font ps y qs → k y qs
           → Via (Part font Disjunctions ps) (λ x qs. Via (Goes font Disjunctions x qs) (after_disjunction font k))
-      by (whole (group p r) a) h = record { value = _; rest = _; read = p; goes = record { value = _; rest = _; read = r;
-          goes = record { value = _; rest = _; read = a; goes = h } } }
+      by (whole (group p r) a) h = record {
+        value = _;
+        rest = _;
+        read = p;
+        goes = record {
+          value = _;
+          rest = _;
+          read = r;
+          goes = record { value = _; rest = _; read = a; goes = h };
+        };
+      }
 
   -- nothing waits on the levels up to one
   abbrev pub no_products : Pending → Pending
@@ -256,10 +301,13 @@ module _ (font : FontUnits) where
   module _ (p : Pending) (k : Behind) (ps : List Piece) where
     pub fresh_product : Via (Part font Products ps) (after_unsigned font p k)
         ↔ Via (Part font Products ps) (after_signed font (record p { signs = no_signs }) k)
-    fresh_product = (λ v. via_map (Part font Products ps) (after_unsigned font p k) (after_signed font (record p { signs = no_signs }) k)
-        (λ x qs h. subst (λ x. after_unsigned font p k x qs) (sym (signed_none x)) h) v, λ v. via_map (Part font Products ps)
-        (after_signed font (record p { signs = no_signs }) k) (after_unsigned font p k) (λ x qs h. subst (λ x. after_unsigned font p k x qs)
-        (signed_none x) h) v)
+    fresh_product = (
+      λ v. via_map (Part font Products ps) (after_unsigned font p k) (after_signed font (record p { signs = no_signs }) k)
+          (λ x qs h. subst (λ x. after_unsigned font p k x qs) (sym (signed_none x)) h) v,
+      λ v. via_map (Part font Products ps)
+          (after_signed font (record p { signs = no_signs }) k) (after_unsigned font p k) (λ x qs h. subst (λ x. after_unsigned font p k x qs)
+          (signed_none x) h) v,
+    )
 
   module _ (p : Pending) (k : Behind) (ps : List Piece) where
     pub fresh_sum : Via (Part font Sums ps) (after_product font p k) ↔ Via (Part font Products ps) (after_signed font (no_products p) k)
@@ -272,14 +320,20 @@ module _ (font : FontUnits) where
   module _ (p : Pending) (k : Behind) (ps : List Piece) where
     pub fresh_conjunction : Via (Part font Conjunctions ps) (after_comparison font p k)
         ↔ Via (Part font Products ps) (after_signed font (no_comparisons p) k)
-    fresh_conjunction = let a = conjunction_parts (after_comparison font p k) ps in let b = fresh_comparison (no_comparisons p) k ps in (λ v.
-        b.0 (a.0 v), λ v. a.1 (b.1 v))
+    fresh_conjunction = let a = conjunction_parts (after_comparison font p k) ps in let b = fresh_comparison (no_comparisons p) k ps in (
+      λ v.
+          b.0 (a.0 v),
+      λ v. a.1 (b.1 v),
+    )
 
   module _ (p : Pending) (k : Behind) (ps : List Piece) where
     pub fresh_disjunction : Via (Part font Disjunctions ps) (after_conjunction font p k)
         ↔ Via (Part font Products ps) (after_signed font (no_conjunctions p) k)
-    fresh_disjunction = let a = disjunction_parts (after_conjunction font p k) ps in let b = fresh_conjunction (no_conjunctions p) k ps in (λ v.
-        b.0 (a.0 v), λ v. a.1 (b.1 v))
+    fresh_disjunction = let a = disjunction_parts (after_conjunction font p k) ps in let b = fresh_conjunction (no_conjunctions p) k ps in (
+      λ v.
+          b.0 (a.0 v),
+      λ v. a.1 (b.1 v),
+    )
 
   pub fresh_whole : (k : Behind) (ps : List Piece) → Via (Whole font ps) k ↔ Via (Part font Products ps) (after_signed font nothing k)
   fresh_whole k ps = let a = whole_parts k ps in let b = fresh_disjunction nothing k ps in (λ v. b.0 (a.0 v), λ v. a.1 (b.1 v))
@@ -304,13 +358,34 @@ module _ (font : FontUnits) where
       → Part font Products (piece m at ∷ ps) x qs → after_signed font p k x qs
       → SignAt None p k m ps ⊎ Via (Primary font (piece m at ∷ ps)) (after_primary font p k)
   prefixed_or p k m at ps qs x g e t (prefixed_part (sign_before {qs = rs} {p = q} {s = s} b f u)) h =
-      inl (front_to (λ m _ ps. SignAt None p k m ps) m q.mark at q.at ps rs g b (s, f, record { value = _; rest = _;
-      read = prefixed_part u; goes = h }))
+      inl (front_to (λ m _ ps. SignAt None p k m ps) m q.mark at q.at ps rs g b (
+        s,
+        f,
+        record {
+          value = _;
+          rest = _;
+          read = prefixed_part u;
+          goes = h;
+        },
+      ))
   prefixed_or p k m at ps qs x g e t (prefixed_part (no_sign_before (group {rs = us} (postfix_part (group {rs = rs} {y = y} (primary_part a) r)) s)))
       h =
-      inr (record { value = _; rest = _; read = a; goes = record { value = _; rest = _; read = r;
-          goes = subst (λ (y : Found). Via (Goes font Powers y rs) (after_signed font p k)) (sym (bare p e t y)) (record { value = _; rest = _;
-          read = s; goes = h }) } })
+      inr (record {
+        value = _;
+        rest = _;
+        read = a;
+        goes = record {
+          value = _;
+          rest = _;
+          read = r;
+          goes = subst (λ (y : Found). Via (Goes font Powers y rs) (after_signed font p k)) (sym (bare p e t y)) (record {
+            value = _;
+            rest = _;
+            read = s;
+            goes = h;
+          });
+        };
+      })
 
   exponent_or : (p : Pending) (k : Behind) (w : Waiting) (m : Mark) (at : ℕ) (ps qs : List Piece) (x : Found) → is_gap m ≡ false
       → Exponential font (piece m at ∷ ps) x qs → after_postfix font p k x qs
@@ -330,10 +405,19 @@ module _ (font : FontUnits) where
   wants_primary None p k ps e t v =
       let y = v.goes.value in
       let r = subst (λ (y : Found). Via (Goes font Powers y v.goes.rest) (after_signed font p k)) (bare p e t y) v.goes.goes in
-      record { value = r.value; rest = r.rest; read = prefixed_part (no_sign_before (group (postfix_part (group (primary_part v.read) v.goes.read))
-          r.read)); goes = r.goes }
-  wants_primary (Some w) p k ps e t v = record { value = v.goes.value; rest = v.goes.rest;
-      read = bare_exponent (group (primary_part v.read) v.goes.read); goes = v.goes.goes }
+      record {
+        value = r.value;
+        rest = r.rest;
+        read = prefixed_part (no_sign_before (group (postfix_part (group (primary_part v.read) v.goes.read))
+            r.read));
+        goes = r.goes;
+      }
+  wants_primary (Some w) p k ps e t v = record {
+    value = v.goes.value;
+    rest = v.goes.rest;
+    read = bare_exponent (group (primary_part v.read) v.goes.read);
+    goes = v.goes.goes;
+  }
 
   -- one more sign, before an operand or an exponent
   pub sign_on : (s : Prefix) (p : Pending) (k : Behind) (m : Mark) (at : ℕ) (ps : List Piece) → is_gap m ≡ false → prefix_of m ≡ Some s
@@ -352,8 +436,13 @@ module _ (font : FontUnits) where
   pub sign_off : (s : Prefix) (p : Pending) (k : Behind) (ps : List Piece)
       → Via (Part font Products ps) (λ x qs. after_signed font p k (prefixed_found s x) qs)
       → Via (Part font Products ps) (after_signed font (record p { signs = with_prefix s p.signs }) k)
-  sign_off s p k ps v = record { value = v.value; rest = v.rest; read = v.read; goes = subst (λ x. after_unsigned font p k x v.rest)
-      (sym (signs_more s p.signs v.value)) v.goes }
+  sign_off s p k ps v = record {
+    value = v.value;
+    rest = v.rest;
+    read = v.read;
+    goes = subst (λ x. after_unsigned font p k x v.rest)
+        (sym (signs_more s p.signs v.value)) v.goes;
+  }
 
   powered_more : (s : Prefix) (p : Pending) (x : Found)
       → powered (record p { exponent = with_prefix s p.exponent }) x ≡ powered p (prefixed_found s x)
@@ -373,5 +462,9 @@ module _ (font : FontUnits) where
   pub exponent_off : (s : Prefix) (p : Pending) (k : Behind) (ps : List Piece)
       → Via (Exponential font ps) (λ x qs. after_postfix font p k (prefixed_found s x) qs)
       → Via (Exponential font ps) (after_postfix font (record p { exponent = with_prefix s p.exponent }) k)
-  exponent_off s p k ps v = record { value = v.value; rest = v.rest; read = v.read;
-      goes = subst (λ x. Via (Goes font Powers x v.rest) (after_signed font p k)) (sym (powered_more s p v.value)) v.goes }
+  exponent_off s p k ps v = record {
+    value = v.value;
+    rest = v.rest;
+    read = v.read;
+    goes = subst (λ x. Via (Goes font Powers x v.rest) (after_signed font p k)) (sym (powered_more s p v.value)) v.goes;
+  }

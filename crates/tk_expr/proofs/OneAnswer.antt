@@ -42,8 +42,12 @@ order_of_pieces (z ∷ b) (w ∷ c) x y r q e =
     order_more z w b c x y (ap (head_of z) e) (order_of_pieces b c x y r q (ap (λ (l : List Piece). drop 1 l) e))
 
 beginning_of_beginning : (b m : List Piece) → IsBeginning (b ++ m) → IsBeginning b
-beginning_of_beginning b m h = record { rest = m ++ h.rest; tree = h.tree; reads = subst (λ (l : List Piece). IsText l h.tree)
-    (append_assoc b m h.rest) h.reads }
+beginning_of_beginning b m h = record {
+  rest = m ++ h.rest;
+  tree = h.tree;
+  reads = subst (λ (l : List Piece). IsText l h.tree)
+      (append_assoc b m h.rest) h.reads;
+}
 
 shorter_of : (b c m : List Piece) → c ≡ b ++ m → IsBeginning c → IsBeginning b
 shorter_of b c m e h = beginning_of_beginning b m (subst IsBeginning e h)

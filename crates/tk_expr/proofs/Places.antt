@@ -183,28 +183,64 @@ module _ (Good : ℕ → Type 0) where
   disjoined_fine p x h k = applied_fine p.disjunction _ h.disjunction (conjoined_fine p x h k)
 
   product_fine : (o : Operator) (at : ℕ) (x : Found) (p : Pending) → Good at → Fine x → PendingFine p → PendingFine (product_waits o at x p)
-  product_fine o at x p e k h = record { power = tt; product = (multiplied_fine p x h k, e); sum = h.sum; comparison = h.comparison;
-      conjunction = h.conjunction; disjunction = h.disjunction }
+  product_fine o at x p e k h = record {
+    power = tt;
+    product = (multiplied_fine p x h k, e);
+    sum = h.sum;
+    comparison = h.comparison;
+    conjunction = h.conjunction;
+    disjunction = h.disjunction;
+  }
 
   sum_fine : (o : Operator) (at : ℕ) (x : Found) (p : Pending) → Good at → Fine x → PendingFine p → PendingFine (sum_waits o at x p)
-  sum_fine o at x p e k h = record { power = tt; product = tt; sum = (added_fine p x h k, e); comparison = h.comparison; conjunction = h.conjunction;
-      disjunction = h.disjunction }
+  sum_fine o at x p e k h = record {
+    power = tt;
+    product = tt;
+    sum = (added_fine p x h k, e);
+    comparison = h.comparison;
+    conjunction = h.conjunction;
+    disjunction = h.disjunction;
+  }
 
   comparison_fine : (o : Operator) (at : ℕ) (x : Found) (p : Pending) → Good at → Fine x → PendingFine p → PendingFine (comparison_waits o at x p)
-  comparison_fine o at x p e k h = record { power = tt; product = tt; sum = tt; comparison = (compared_fine p x h k, e); conjunction = h.conjunction;
-      disjunction = h.disjunction }
+  comparison_fine o at x p e k h = record {
+    power = tt;
+    product = tt;
+    sum = tt;
+    comparison = (compared_fine p x h k, e);
+    conjunction = h.conjunction;
+    disjunction = h.disjunction;
+  }
 
   waits_fine : (o : Operator) (at : ℕ) (x : Found) (p : Pending) → Good at → Fine x → PendingFine p → PendingFine (waits o at x p)
-  waits_fine Raise at x p e k h = record { power = (powered_fine p x h k, e); product = h.product; sum = h.sum; comparison = h.comparison;
-      conjunction = h.conjunction; disjunction = h.disjunction }
+  waits_fine Raise at x p e k h = record {
+    power = (powered_fine p x h k, e);
+    product = h.product;
+    sum = h.sum;
+    comparison = h.comparison;
+    conjunction = h.conjunction;
+    disjunction = h.disjunction;
+  }
   waits_fine Multiply at x p e k h = product_fine Multiply at x p e k h
   waits_fine Divide at x p e k h = product_fine Divide at x p e k h
   waits_fine Add at x p e k h = sum_fine Add at x p e k h
   waits_fine Subtract at x p e k h = sum_fine Subtract at x p e k h
-  waits_fine Both at x p e k h = record { power = tt; product = tt; sum = tt; comparison = tt; conjunction = (conjoined_fine p x h k, e);
-      disjunction = h.disjunction }
-  waits_fine Either at x p e k h = record { power = tt; product = tt; sum = tt; comparison = tt; conjunction = tt;
-      disjunction = (disjoined_fine p x h k, e) }
+  waits_fine Both at x p e k h = record {
+    power = tt;
+    product = tt;
+    sum = tt;
+    comparison = tt;
+    conjunction = (conjoined_fine p x h k, e);
+    disjunction = h.disjunction;
+  }
+  waits_fine Either at x p e k h = record {
+    power = tt;
+    product = tt;
+    sum = tt;
+    comparison = tt;
+    conjunction = tt;
+    disjunction = (disjoined_fine p x h k, e);
+  }
   waits_fine Same at x p e k h = comparison_fine Same at x p e k h
   waits_fine Differs at x p e k h = comparison_fine Differs at x p e k h
   waits_fine AtMost at x p e k h = comparison_fine AtMost at x p e k h
@@ -235,8 +271,18 @@ module _ (Good : ℕ → Type 0) where
   behind_fine x s k h = closed_fine (disjoined s.pending x) s.frames (disjoined_fine s.pending x h.pending k) h.frames
 
   nothing_fine : (fs : List Frame) (s : State) → FramesFine fs → StateFine (wanted_in fs s)
-  nothing_fine fs s h = record { mode = tt; pending = record { power = tt; product = tt; sum = tt; comparison = tt; conjunction = tt;
-      disjunction = tt }; frames = h }
+  nothing_fine fs s h = record {
+    mode = tt;
+    pending = record {
+      power = tt;
+      product = tt;
+      sum = tt;
+      comparison = tt;
+      conjunction = tt;
+      disjunction = tt;
+    };
+    frames = h;
+  }
 
   opened_fine : (at : ℕ) (f : Frame) (s : State) → Good at → FrameFine f → StateFine s → Stays (with_frame at f s)
   opened_fine at f s e k h = holds_if StateFine Early (nat_lt (length s.frames) 64) _ _ (nothing_fine (f ∷ s.frames) s (k, h.frames)) e
@@ -294,14 +340,44 @@ module _ (Good : ℕ → Type 0) where
 
   exponent_fine : (sign : Prefix) (at : ℕ) (s : State) → Good at → StateFine s → Stays (sign_exponent sign at s)
   exponent_fine Not at s e h = e
-  exponent_fine Negate at s e h = record { mode = tt; pending = (let p = h.pending in record { power = p.power; product = p.product; sum = p.sum;
-      comparison = p.comparison; conjunction = p.conjunction; disjunction = p.disjunction }); frames = h.frames }
-  exponent_fine Keep at s e h = record { mode = tt; pending = (let p = h.pending in record { power = p.power; product = p.product; sum = p.sum;
-      comparison = p.comparison; conjunction = p.conjunction; disjunction = p.disjunction }); frames = h.frames }
+  exponent_fine Negate at s e h = record {
+    mode = tt;
+    pending = (let p = h.pending in record {
+      power = p.power;
+      product = p.product;
+      sum = p.sum;
+      comparison = p.comparison;
+      conjunction = p.conjunction;
+      disjunction = p.disjunction;
+    });
+    frames = h.frames;
+  }
+  exponent_fine Keep at s e h = record {
+    mode = tt;
+    pending = (let p = h.pending in record {
+      power = p.power;
+      product = p.product;
+      sum = p.sum;
+      comparison = p.comparison;
+      conjunction = p.conjunction;
+      disjunction = p.disjunction;
+    });
+    frames = h.frames;
+  }
 
   operand_fine : (w : Option Waiting) (sign : Prefix) (at : ℕ) (s : State) → Good at → StateFine s → Stays (sign_operand w sign at s)
-  operand_fine None sign at s e h = record { mode = tt; pending = (let p = h.pending in record { power = p.power; product = p.product; sum = p.sum;
-      comparison = p.comparison; conjunction = p.conjunction; disjunction = p.disjunction }); frames = h.frames }
+  operand_fine None sign at s e h = record {
+    mode = tt;
+    pending = (let p = h.pending in record {
+      power = p.power;
+      product = p.product;
+      sum = p.sum;
+      comparison = p.comparison;
+      conjunction = p.conjunction;
+      disjunction = p.disjunction;
+    });
+    frames = h.frames;
+  }
   operand_fine (Some w) sign at s e h = exponent_fine sign at s e h
 
   begin_fine : (m : Mark) (at : ℕ) (s : State) → Good at → StateFine s → Stays (begin m at s)
@@ -319,8 +395,18 @@ module _ (Good : ℕ → Type 0) where
   begin_fine _ at s e h = e
 
   ordered_fine : (m : Mark) (at : ℕ) (s : State) → Good at → StateFine s → Stays (ordered m at s)
-  ordered_fine Equals at s e h = record { mode = tt; pending = (let p = h.pending in record { power = p.power; product = p.product; sum = p.sum;
-      comparison = or_same_fine s.pending.comparison p.comparison; conjunction = p.conjunction; disjunction = p.disjunction }); frames = h.frames }
+  ordered_fine Equals at s e h = record {
+    mode = tt;
+    pending = (let p = h.pending in record {
+      power = p.power;
+      product = p.product;
+      sum = p.sum;
+      comparison = or_same_fine s.pending.comparison p.comparison;
+      conjunction = p.conjunction;
+      disjunction = p.disjunction;
+    });
+    frames = h.frames;
+  }
   ordered_fine mark at s e h = begin_fine mark at s e h
 
   half_fine : (w m : Mark) (at : ℕ) (s : State) → Good at → StateFine s → Stays (half w m at s)

@@ -27,11 +27,25 @@ proper_row (r ∷ table) text h = proper_if (bytes_eq text r.text) r.mark (mark_
 
 proper_word : (text : List ℕ) → Proper (word_mark text)
 unfolding word_mark
-proper_word text = proper_row rows text
-    (tt, (tt,
-    (tt, (tt,
-    (tt, (tt,
-    (tt, (tt, (tt, (tt, (tt, (tt, (tt, (tt, (tt, (tt, (tt, (tt, (tt, (tt, (tt, (tt, (tt, (tt, (tt, (tt, (tt, (tt, tt))))))))))))))))))))))))))))
+proper_word text = proper_row rows text (
+  tt,
+  (
+    tt,
+    (
+      tt,
+      (
+        tt,
+        (
+          tt,
+          (
+            tt,
+            (tt, (tt, (tt, (tt, (tt, (tt, (tt, (tt, (tt, (tt, (tt, (tt, (tt, (tt, (tt, (tt, (tt, (tt, (tt, (tt, (tt, (tt, tt)))))))))))))))))))))),
+          ),
+        ),
+      ),
+    ),
+  ),
+)
 
 proper_sign : (table : List (ℕ × Mark)) (c : ℕ) → AllByRecursion (λ (r : ℕ × Mark). Proper r.1) table → Proper (mark_at table c)
 proper_sign [] c h = tt

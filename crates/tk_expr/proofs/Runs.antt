@@ -159,8 +159,13 @@ module _ (font : FontUnits) where
   -- ---- texts and values
 
   pub text_in : (ps : List Piece) (t : Tree) → IsText ps t → Completes font start ps (value font t)
-  text_in ps t h = (fresh_whole font (ends_in font [] (value font t)) ps).0 (record { value = value font t; rest = h.left; read = read_expression font
-      h.reads; goes = (refl, h.all) })
+  text_in ps t h = (fresh_whole font (ends_in font [] (value font t)) ps).0 (record {
+    value = value font t;
+    rest = h.left;
+    read = read_expression font
+        h.reads;
+    goes = (refl, h.all);
+  })
 
   -- a text with that value
   pub record Text_of (ps : List Piece) (v : Found) : Type 0 where
@@ -259,9 +264,12 @@ module _ (font : FontUnits) where
   goes_on : {before : List Piece} {s : State} (r : Reached before s) (p : Piece) → IsBeginning (before ++ p ∷ [])
       → (ps : List Piece) × (v : Found) × Completes font s (p ∷ ps) v
   goes_on {before = before} r p b =
-      let v = value font b.tree in
-      (b.rest, v, (r.same (p ∷ b.rest) v).0 (subst (λ (l : List Piece). Completes font start l v) (one_more before p b.rest)
-          (text_in ((before ++ p ∷ []) ++ b.rest) b.tree b.reads)))
+      let v = value font b.tree in (
+        b.rest,
+        v,
+        (r.same (p ∷ b.rest) v).0 (subst (λ (l : List Piece). Completes font start l v) (one_more before p b.rest)
+            (text_in ((before ++ p ∷ []) ++ b.rest) b.tree b.reads)),
+      )
 
   beginning_next : {before : List Piece} {s : State} (r : Reached before s) (p : Piece) (ps : List Piece) (v : Found) → Completes font s (p ∷ ps) v
       → IsBeginning (before ++ p ∷ [])
@@ -297,8 +305,13 @@ module _ (font : FontUnits) where
 
   misfit_at : {before : List Piece} {s : State} (r : Reached before s) (p : Piece) (ps : List Piece)
       → ((ps : List Piece) (v : Found) → In s p.mark p.at ps v → ⊥) → IsMisfit (before ++ p ∷ ps) before p
-  misfit_at r p ps h = record { rest = ps; split = refl; beginning = beginning_now r; shallow = r.shallow;
-      fits_not = λ b. let g = goes_on r p b in h g.0 g.1 g.2 }
+  misfit_at r p ps h = record {
+    rest = ps;
+    split = refl;
+    beginning = beginning_now r;
+    shallow = r.shallow;
+    fits_not = λ b. let g = goes_on r p b in h g.0 g.1 g.2;
+  }
 
   too_deep_at : {before : List Piece} {s : State} (r : Reached before s) (p : Piece) (ps : List Piece) (t : State)
       → Same font (In s p.mark p.at) (Completes font t) → Kept font (NamedAt s.mode) s.frames s.unit p.mark p.at t → 64 ≤ length s.frames
@@ -307,8 +320,13 @@ module _ (font : FontUnits) where
       let e = completes font t k.valid.half k.valid.tidy in
       let few = r.few in
       let long : length (open_in (before ++ p ∷ [])) ≡ length t.frames = length_next r p t k in
-      record { rest = ps; split = refl; beginning = beginning_next r p e.0 e.1 ((h e.0 e.1).1 e.2); shallow = r.shallow;
-          deep = omega (arith, few, many, more, long) }
+      record {
+        rest = ps;
+        split = refl;
+        beginning = beginning_next r p e.0 e.1 ((h e.0 e.1).1 e.2);
+        shallow = r.shallow;
+        deep = omega (arith, few, many, more, long);
+      }
 
   from_sure : (end : ℕ) {before : List Piece} {s : State} (r : Reached before s) (p : Piece) (ps : List Piece) (m : Answer State)
       → SureIs font (In s p.mark p.at) (In s Right) (In s Comma) (NamedAt s.mode) s.frames s.unit p.mark p.at m

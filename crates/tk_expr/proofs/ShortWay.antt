@@ -53,10 +53,16 @@ module _ (p : Piece) (ps all : List Piece) (front : all ≡ p ∷ ps) where
         one_step_goes_on font (counting n negative) (counting (with_point n) negative) p ps all Point front is (rw none refl)
 
     unit_goes : (font : FontUnits) (u : AUnit) → p.mark ≡ Measure u → (negative : Bool)
-        → run font (counting n negative) all ≡ run font (record start { pending = sign_waits negative; mode = After (unit_value font u n);
-            unit = true }) ps
-    unit_goes font u is negative = one_step_goes_on font (counting n negative) (record start { pending = sign_waits negative;
-        mode = After (unit_value font u n); unit = true }) p ps all (Measure u) front is refl
+        → run font (counting n negative) all ≡ run font (record start {
+          pending = sign_waits negative;
+          mode = After (unit_value font u n);
+          unit = true;
+        }) ps
+    unit_goes font u is negative = one_step_goes_on font (counting n negative) (record start {
+      pending = sign_waits negative;
+      mode = After (unit_value font u n);
+      unit = true;
+    }) p ps all (Measure u) front is refl
 
 -- an operand behind a sign, where the pieces run out
 short_way_ends : (font : FontUnits) (end : ℕ) (negative : Bool) (x : Found) (unit : Bool)
@@ -86,8 +92,8 @@ pub unit_ends : (font : FontUnits) (n : Decimal) (ts us : List Tok) (p : Piece) 
     → p.mark ≡ Measure u → x ≡ unit_value font u n → EndsAs font (counting n) ts (x, true)
 unit_ends font n ts us p u x front none mark is negative end =
     ap (λ (a : Answer State). a >>= λ s. finish font end s) (unit_goes p (pieces_of us) (pieces_of ts) front n font u mark negative
-        ∙ ap (λ (us : List Tok). run font (record start { pending = sign_waits negative; mode = After (unit_value font u n); unit = true })
-        (pieces_of us)) none)
+    ∙ ap (λ (us : List Tok). run font (record start { pending = sign_waits negative; mode = After (unit_value font u n); unit = true })
+    (pieces_of us)) none)
     ∙ short_way_ends font end negative (unit_value font u n) true
     ∙ ap (λ (x : Found). signed_value negative x true) (sym is)
 

@@ -33,7 +33,7 @@ not_not false = refl
 -- one more sign further in
 sign_more : (sign : Prefix) (negative : Bool) (t : Truth) (x : ℤ)
     → signed_by (with_prefix sign (record { negative = negative; truth = t })) x ≡ signed_by (record { negative = negative; truth = t })
-        (prefixed sign x)
+    (prefixed sign x)
 sign_more Keep n t x = refl
 sign_more Negate true Itself x = sym (neg_ℤ-neg_ℤ x)
 sign_more Negate false Itself x = refl

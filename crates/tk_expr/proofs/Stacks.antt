@@ -14,5 +14,5 @@ pub top_is : {X : Type 0} (xs : List X) (n : ℕ) (d x : X) → 0 < n → n ≤ 
 top_is xs n d x some within here =
     let one : n ≡ (n - 1) + 1 = omega arith in
     let more : take n xs ≡ take (n - 1) xs ++ x ∷ [] = ap (λ k. take k xs) one ∙ take_more xs (n - 1) d (omega arith)
-            ∙ ap (λ y. take (n - 1) xs ++ y ∷ []) here in
+    ∙ ap (λ y. take (n - 1) xs ++ y ∷ []) here in
     first_and_dropped x (reverse (take (n - 1) xs)) (reverse (take n xs)) (reversed_behind_last (take (n - 1) xs) (take n xs) x more)

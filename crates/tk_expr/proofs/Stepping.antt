@@ -131,7 +131,7 @@ module _ (font : FontUnits) where
         let q = record s.pending { signs = with_prefix sign s.pending.signs } in
         sure (steps (record s { mode = Wanted; pending = q })
         (λ ps v. subst (λ (w : Option Waiting). wants font w s.pending (ends_in font s.frames v) (piece m at ∷ ps)
-            ↔ wants font w q (ends_in font s.frames v) ps) (sym alone) (sign_same sign m g f non at s.pending (ends_in font s.frames v) alone p ps))
+        ↔ wants font w q (ends_in font s.frames v) ps) (sym alone) (sign_same sign m g f non at s.pending (ends_in font s.frames v) alone p ps))
         (kept_mode font s t m at Wanted q tt p u same (λ name e. named name at)) (λ le. le))
 
     exponent_sign_is : (sign : Prefix) → exponent_sign m ≡ Some sign → (at : ℕ) (s : State) (w : Waiting) → s.pending.power ≡ Some w
@@ -141,7 +141,7 @@ module _ (font : FontUnits) where
         let q = record s.pending { exponent = with_prefix sign s.pending.exponent } in
         sure (steps (record s { mode = Wanted; pending = q })
         (λ ps v. subst (λ (w : Option Waiting). wants font w s.pending (ends_in font s.frames v) (piece m at ∷ ps)
-            ↔ wants font w q (ends_in font s.frames v) ps) (sym is) (exponent_same sign m g f non at w s.pending (ends_in font s.frames v) is p ps))
+        ↔ wants font w q (ends_in font s.frames v) ps) (sym is) (exponent_same sign m g f non at w s.pending (ends_in font s.frames v) is p ps))
         (kept_mode font s t m at Wanted q tt (λ e. absurd (some_not_none e is)) u same (λ name e. named name at)) (λ le. le))
 
   minus_is : (w : Option Waiting) (at : ℕ) (s : State) → s.pending.power ≡ w → Tidy font s.pending → FramesTidy font s.frames
@@ -196,11 +196,18 @@ module _ (font : FontUnits) where
   begin_is Plus at s small p t = plus_is s.pending.power at s refl p t
   begin_is Bang at s small p t = bang_is s.pending.power at s refl p t
   begin_is Left at s small p t = opened_is font _ _ _ (Unnamed font) Left at (Inside Plain s.pending) s (λ ps v. left_same at s p ps v)
-      (record { valid = record { half = tt; tidy = λ e. refl; frames = (p, t) }; unit_is = refl; opens = λ name os e h.
-      (subst (λ (name : Option ℕ). Opens (Inside Plain s.pending ∷ s.frames) (opener_behind name ∷ os)) (sym e) (tt, h), refl) })
+      (record {
+        valid = record { half = tt; tidy = λ e. refl; frames = (p, t) };
+        unit_is = refl;
+        opens = λ name os e h.
+            (subst (λ (name : Option ℕ). Opens (Inside Plain s.pending ∷ s.frames) (opener_behind name ∷ os)) (sym e) (tt, h), refl);
+      })
   begin_is Gap at s small p t = mode_is Gap at Wanted s p t tt refl (λ name os. refl) (λ name e. e)
-      (λ ps v. (λ h. wants_alike font s.pending.power s.pending (ends_in font s.frames v) (piece Gap at ∷ ps) ps refl h, λ h. wants_alike font
-      s.pending.power s.pending (ends_in font s.frames v) ps (piece Gap at ∷ ps) refl h))
+      (λ ps v. (
+        λ h. wants_alike font s.pending.power s.pending (ends_in font s.frames v) (piece Gap at ∷ ps) ps refl h,
+        λ h. wants_alike font
+            s.pending.power s.pending (ends_in font s.frames v) ps (piece Gap at ∷ ps) refl h,
+      ))
   begin_is m at s small p t = refused_is m refl refl refl never at s p
 
   -- ---- behind `<` or `>`
@@ -234,8 +241,11 @@ module _ (font : FontUnits) where
 
   ordered_is : (m : Mark) (at : ℕ) (s : State) → Proper m → Tidy font s.pending → FramesTidy font s.frames → OrderIs s m at (ordered m at s)
   ordered_is Equals at s small p t = sure (steps (record s { mode = Wanted; pending = or_same_waits font s.pending })
-      (λ ps v. let d = directly_same Equals (wants font s.pending.power (or_same_waits font s.pending) (ends_in font s.frames v)) at ps in (λ h.
-      d.0 (only_right (wants_not Equals refl refl refl never at s p ps v) h), λ h. inr (d.1 h))) (kept_mode font s t Equals at Wanted
+      (λ ps v. let d = directly_same Equals (wants font s.pending.power (or_same_waits font s.pending) (ends_in font s.frames v)) at ps in (
+        λ h.
+            d.0 (only_right (wants_not Equals refl refl refl never at s p ps v) h),
+        λ h. inr (d.1 h),
+      )) (kept_mode font s t Equals at Wanted
       (or_same_waits font s.pending) tt p refl (λ name os. refl) (λ name e. refl)) (λ le. le))
   ordered_is m at s small p t = order_as m refl at s (begin m at s) (begin_is m at s small p t)
 
@@ -337,8 +347,11 @@ module _ (font : FontUnits) where
   dot_is : (place : ℕ) (m : Mark) (at : ℕ) (s : State) → Proper m → Tidy font s.pending → FramesTidy font s.frames
       → DotIs place s m at (dot place m at s)
   dot_is place (Digit d) at s small p t =
-      sure (steps (record s { mode = Number (with_digit d (no_digits true place)) }) (λ ps v. (λ h. dot_at place (behind s v) (Digit d) at ps h, λ h.
-      (d, at, ps, refl, small, h))) (kept_mode font s t (Digit d) at (Number (with_digit d (no_digits true place))) s.pending tt p refl
+      sure (steps (record s { mode = Number (with_digit d (no_digits true place)) }) (λ ps v. (
+        λ h. dot_at place (behind s v) (Digit d) at ps h,
+        λ h.
+            (d, at, ps, refl, small, h),
+      )) (kept_mode font s t (Digit d) at (Number (with_digit d (no_digits true place))) s.pending tt p refl
       (λ name os. refl) (λ name e. refl)) (λ le. le))
   dot_is place m at s small p t = sure (refuses (λ ps v h. dot_at place (behind s v) m at ps h)
       (no_miscount font (λ k ps v. in_dot font place (behind s v) (piece Right k ∷ ps)) (λ k ps v. in_dot font place (behind s v) (piece Comma k
@@ -358,14 +371,16 @@ module _ (font : FontUnits) where
 
   gap_same : (n : Decimal) (at : ℕ) (s : State) (ps : List Piece) (v : Found)
       → in_mode font (Measured n) s.pending (ends_in font s.frames v) (piece Gap at ∷ ps)
-          ↔ in_mode font (Measured n) s.pending (ends_in font s.frames v) ps
+      ↔ in_mode font (Measured n) s.pending (ends_in font s.frames v) ps
   gap_same n at s ps v =
       let k = after_primary font s.pending (ends_in font s.frames v) in
       let x = decimal_found font (next_unit ps) n in
       let pass = λ (ps qs : List Piece) (e : skip ps ≡ skip qs) (h : k x ps). pass_primary font s.pending (ends_in font s.frames v)
-              (pass_ends font s.frames v) x ps qs e h in
-      (λ h. past_gaps (next_unit ps) k x (skip ps) (piece Gap at ∷ ps) ps pass refl h, λ h. past_gaps (next_unit ps) k x (skip ps) ps (piece Gap at
-          ∷ ps) pass refl h)
+      (pass_ends font s.frames v) x ps qs e h in (
+        λ h. past_gaps (next_unit ps) k x (skip ps) (piece Gap at ∷ ps) ps pass refl h,
+        λ h. past_gaps (next_unit ps) k x (skip ps) ps (piece Gap at
+            ∷ ps) pass refl h,
+      )
 
   measured_is : (n : Decimal) (m : Mark) (at : ℕ) (s : State) → Tidy font s.pending → FramesTidy font s.frames
       → MeasuredIs n s m at (measured font n m at s)
@@ -391,14 +406,14 @@ module _ (font : FontUnits) where
       → in_number font n k (piece (Digit d) at ∷ ps) ↔ in_number font (with_digit d n) k ps
   digit_same n d at k ps small =
       let is : decimal_from (piece (Digit d) at ∷ ps) n
-              ≡ decimal_from ps (with_digit d n) = ap (λ (b : Bool). cond b (decimal_from ps (with_digit d n)) None) small in
+      ≡ decimal_from ps (with_digit d n) = ap (λ (b : Bool). cond b (decimal_from ps (with_digit d n)) None) small in
       (λ (m, e, h). (m, sym is ∙ e, h), λ (m, e, h). (m, is ∙ e, h))
 
   point_same : (n : Decimal) (at : ℕ) (k : Behind) (ps : List Piece) → n.pointed ≡ false
       → in_number font n k (piece Point at ∷ ps) ↔ in_number font (with_point n) k ps
   point_same n at k ps e =
       let is : decimal_from (piece Point at ∷ ps) n ≡ decimal_from ps (with_point n) = ap (λ (b : Bool). cond b None (decimal_from ps (with_point n)))
-              e in
+      e in
       (λ (m, f, h). (m, sym is ∙ f, h), λ (m, f, h). (m, is ∙ f, h))
 
   second_point : (n : Decimal) (at : ℕ) (k : Behind) (ps : List Piece) → n.pointed ≡ true → in_number font n k (piece Point at ∷ ps) → ⊥

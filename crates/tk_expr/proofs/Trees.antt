@@ -82,8 +82,11 @@ module _ (font : FontUnits) where
 
   digits_told : (ps qs : List Piece) (p : Piece) (n : Decimal) → skip ps ≡ p ∷ qs → IsNumber font p qs (next_unit (after_decimal (p ∷ qs))) n
       → Told font (λ t. Atom ps t (after_unit (after_decimal (p ∷ qs)))) (decimal_found font (next_unit (after_decimal (p ∷ qs))) n)
-  digits_told ps qs p n e h = record { tree = A_number (decimal_text (p ∷ qs)) (next_unit (after_decimal (p ∷ qs))) p.at; is = h.value;
-      read = decimal e h.text }
+  digits_told ps qs p n e h = record {
+    tree = A_number (decimal_text (p ∷ qs)) (next_unit (after_decimal (p ∷ qs))) p.at;
+    is = h.value;
+    read = decimal e h.text;
+  }
 
   mutual
     pub tell_whole : {ps qs : List Piece} {x : Found} → Whole font ps x qs → Told font (λ t. Expression ps t qs) x
@@ -92,8 +95,11 @@ module _ (font : FontUnits) where
     tell_asks : {ps rs : List Piece} {x y : Found} → Asks font x ps y rs → (c : Tree) → value font c ≡ x
         → Told font (λ t. (qs : List Piece) → Grouped Disjunctions qs c ps → Expression qs t rs) y
     tell_asks unasked c is = record { tree = c; is = is; read = λ qs g. plain g }
-    tell_asks (asked q t n u) c is = let v = tell_whole t in let w = tell_whole u in record { tree = Choice c v.tree w.tree;
-        is = choice_is c v.tree w.tree is v.is w.is; read = λ qs g. choice g q v.read n w.read }
+    tell_asks (asked q t n u) c is = let v = tell_whole t in let w = tell_whole u in record {
+      tree = Choice c v.tree w.tree;
+      is = choice_is c v.tree w.tree is v.is w.is;
+      read = λ qs g. choice g q v.read n w.read;
+    }
 
     tell_group : {l : Precedence} {ps qs : List Piece} {x : Found} → Group font l ps x qs → Told font (λ t. Grouped l ps t qs) x
     tell_group (group p g) =
@@ -122,8 +128,11 @@ module _ (font : FontUnits) where
         let w = tell_part p in let r = tell_goes g (Binary o at t w.tree) (ap₂ (λ a b. applied (waiting o at a) b) is w.is)
         in record { tree = r.tree; is = r.is; read = with_operator l c e w.read r.read }
     tell_goes (on_comparison o at l e p) t is =
-        let w = tell_part p in record { tree = Binary o at t w.tree; is = ap₂ (λ a b. applied (waiting o at a) b) is w.is;
-        read = with_comparison l e w.read }
+        let w = tell_part p in record {
+          tree = Binary o at t w.tree;
+          is = ap₂ (λ a b. applied (waiting o at a) b) is w.is;
+          read = with_comparison l e w.read;
+        }
 
     tell_prefixed : {ps qs : List Piece} {x : Found} → Prefixed font ps x qs → Told font (λ t. Unary ps t qs) x
     tell_prefixed (sign_before {s = s} e f u) =
@@ -145,8 +154,11 @@ module _ (font : FontUnits) where
     tell_primary (of_one {f = f} {at = at} e l t r) =
         let x = tell_whole t in record { tree = Call_one f at x.tree; is = ap (one_found f at) x.is; read = call_one e l x.read r }
     tell_primary (of_two {f = f} {at = at} e l t c u r) =
-        let x = tell_whole t in let y = tell_whole u in record { tree = Call_two f at x.tree y.tree; is = ap₂ (two_found f at) x.is y.is;
-        read = call_two e l x.read c y.read r }
+        let x = tell_whole t in let y = tell_whole u in record {
+          tree = Call_two f at x.tree y.tree;
+          is = ap₂ (two_found f at) x.is y.is;
+          read = call_two e l x.read c y.read r;
+        }
     tell_primary (of_most e l t a) =
         let x = tell_whole t in let r = tell_further a x.tree x.is in record { tree = r.tree; is = r.is; read = call_most e l x.read r.read }
 

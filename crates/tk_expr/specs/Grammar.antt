@@ -257,7 +257,7 @@ mutual
         → skip ps ≡ p ∷ qs
         → is_decimal (decimal_text (p ∷ qs)) ≡ true
         → Atom ps (A_number (decimal_text (p ∷ qs)) (next_unit (after_decimal (p ∷ qs))) p.at)
-            (after_unit (after_decimal (p ∷ qs)))
+        (after_unit (after_decimal (p ∷ qs)))
     parenthesis : {ps qs rs ss : List Piece} {t : Tree} {m n : ℕ}
         → Begins Left m ps qs
         → Expression qs t rs

@@ -84,8 +84,16 @@ signed_found s x = x >>= λ v. Ok (signed_by s v)
 
 -- nothing waits
 abbrev pub nothing : Pending
-nothing = record { exponent = no_signs; power = None; signs = no_signs; product = None; sum = None; comparison = None;
-    conjunction = None; disjunction = None }
+nothing = record {
+  exponent = no_signs;
+  power = None;
+  signs = no_signs;
+  product = None;
+  sum = None;
+  comparison = None;
+  conjunction = None;
+  disjunction = None;
+}
 
 -- an operator that waits, with its right operand
 abbrev pub applied : Option Waiting → Found → Found
@@ -125,18 +133,33 @@ waiting o at x = Some (record { left = x; operator = o; at = at })
 
 -- what waits once `*` or `/` is read behind an operand: all that binds as tightly or tighter is settled
 abbrev pub product_waits : Operator → ℕ → Found → Pending → Pending
-product_waits o at x p = record p { exponent = no_signs; power = None; signs = no_signs;
-    product = waiting o at (multiplied p x) }
+product_waits o at x p = record p {
+  exponent = no_signs;
+  power = None;
+  signs = no_signs;
+  product = waiting o at (multiplied p x);
+}
 
 -- what waits once `+` or `-` is read behind an operand
 abbrev pub sum_waits : Operator → ℕ → Found → Pending → Pending
-sum_waits o at x p = record p { exponent = no_signs; power = None; signs = no_signs; product = None;
-    sum = waiting o at (added p x) }
+sum_waits o at x p = record p {
+  exponent = no_signs;
+  power = None;
+  signs = no_signs;
+  product = None;
+  sum = waiting o at (added p x);
+}
 
 -- what waits once a comparison is read behind an operand
 abbrev pub comparison_waits : Operator → ℕ → Found → Pending → Pending
-comparison_waits o at x p = record p { exponent = no_signs; power = None; signs = no_signs; product = None; sum = None;
-    comparison = waiting o at (compared p x) }
+comparison_waits o at x p = record p {
+  exponent = no_signs;
+  power = None;
+  signs = no_signs;
+  product = None;
+  sum = None;
+  comparison = waiting o at (compared p x);
+}
 
 -- what waits once an operator is read behind an operand
 abbrev pub waits : Operator → ℕ → Found → Pending → Pending

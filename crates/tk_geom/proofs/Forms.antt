@@ -155,7 +155,7 @@ pub three_over_fits : (a b c : ℤ) → unsigned_abs a ≤ 2 ^ 92 → unsigned_a
     → SFits w64 (in128 (int_div (in128 (in128 (in128 a +ℤ in128 b) +ℤ in128 c)) (pos 4294967296)))
 three_over_fits a b c la lb lc most =
     rw (three_over_wide a b c la lb lc most) (fits_signed_from_abs w64 (int_div (a +ℤ b +ℤ c) (pos 4294967296))
-        (omega (arith, small_over a b c most)))
+    (omega (arith, small_over a b c most)))
 
 pub three_over : (a b c : ℤ) → unsigned_abs a ≤ 2 ^ 92 → unsigned_abs b ≤ 2 ^ 92 → unsigned_abs c ≤ 2 ^ 92 → unsigned_abs (a +ℤ b +ℤ c) ≤ 2 ^ 72
     → in64 (in128 (int_div (in128 (in128 (in128 a +ℤ in128 b) +ℤ in128 c)) (pos 4294967296))) ≡ int_div (a +ℤ b +ℤ c) (pos 4294967296)

@@ -54,7 +54,7 @@ then_then g (Ok a) rest = deeper g a (rest a.units)
   where
     deeper : (g a : Grid) (answer : Answer Grid)
         → ((answer >>= λ h. Ok (grid_behind a.pieces h)) >>= λ h. Ok (grid_behind g.pieces h))
-            ≡ (answer >>= λ h. Ok (grid_behind (g.pieces ++ a.pieces) h))
+        ≡ (answer >>= λ h. Ok (grid_behind (g.pieces ++ a.pieces) h))
     deeper g a (Ok h) = ap (λ (all : List Seg). let r : Answer Grid = Ok (grid_of all h.units) in r) (sym (append_assoc g.pieces a.pieces h.pieces))
     deeper g a (Err fault) = refl
 then_then g (Err fault) rest = refl

@@ -51,7 +51,7 @@ sine_between_is_between low high part le lt =
 quarter_most : (a : ℕ) → a ≤ 1474560 → quarter_sine a ≤ 25607
 quarter_most a le =
     let b = sine_between_is_between (get_or sines (a / 65536) 0) (get_or sines (a / 65536 + 1) 0) (a % 65536) (sines_rise (a / 65536) (omega arith))
-            (omega arith) in
+    (omega arith) in
     let m = sines_to_23_are_at_most_that (a / 65536 + 1) (omega arith) in
     omega (arith, b, m)
 
@@ -127,9 +127,12 @@ quotient_there z n low high =
 pub tangent_there : (angle : ℤ) → unsigned_abs angle ≤ 1474560 → (t : ℤ) × (tangent angle ≡ Ok t) × (unsigned_abs t ≤ 32768)
 tangent_there angle le =
     let c = cosine_of angle le in
-    let s = sine_of angle le in
-    (int_div (sine angle *ℤ pos 65536) (pos c.0), ap (quotient (sine angle)) c.1 ∙ quotient_there (sine angle) c.0 s c.2, quotient_small
-        (sine angle) c.0 s c.2)
+    let s = sine_of angle le in (
+      int_div (sine angle *ℤ pos 65536) (pos c.0),
+      ap (quotient (sine angle)) c.1 ∙ quotient_there (sine angle) c.0 s c.2,
+      quotient_small
+          (sine angle) c.0 s c.2,
+    )
 
 pub IsOk-tangent : (angle : ℤ) → 2 * unsigned_abs angle ≤ 2949120 → IsOk (tangent angle)
 IsOk-tangent angle le = let t = tangent_there angle (omega arith) in rw t.1 refl

@@ -16,7 +16,7 @@ use Rattle.tk_io.specs.Desk.{OnDesk, IsDesk, file_at, find_file}
 pub position-map : {X Y : Type 0} (p : Y → Bool) (f : X → Y) (xs : List X) → position p (map f xs) ≡ position (λ x. p (f x)) xs
 position-map {X} {Y} p f xs =
     ap (λ (n : ℕ). cond (nat_lt n (length (map f xs))) (Some n) None) (is_position_or_len (λ (xs : List X). position_or_len p (map f xs))
-        (λ x. p (f x)) refl (λ x xs. by_test (p (f x)) (position_or_len p (map f xs))) xs)
+    (λ x. p (f x)) refl (λ x xs. by_test (p (f x)) (position_or_len p (map f xs))) xs)
     ∙ ap (λ (n : ℕ). cond (nat_lt (position_or_len (λ x. p (f x)) xs) n) (Some (position_or_len (λ x. p (f x)) xs)) None) (length-map xs f)
   where
     by_test : (b : Bool) (n : ℕ) → cond (mathlib.Core.Bool.not b) (1 + n) 0 ≡ cond b 0 (1 + n)

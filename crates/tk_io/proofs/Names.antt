@@ -24,8 +24,8 @@ IsFirst files place =
 pub NamesDiffer-from_first : (files : List MemFile) → ((k : ℕ) → k < length files → IsFirst files k) → NamesDiffer files
 NamesDiffer-from_first files first i j d before within same =
     let at_i : bytes_eq (string_bytes (get_or files i d).name) (string_bytes (get_or files j d).name)
-            ≡ false = (position-Some (λ file. bytes_eq (string_bytes file.name) (string_bytes (get_or files j d).name)) files j d
-            (first j within d)).2 i before in
+    ≡ false = (position-Some (λ file. bytes_eq (string_bytes file.name) (string_bytes (get_or files j d).name)) files j d
+    (first j within d)).2 i before in
     false≢true (sym at_i ∙ (bytes_eq-Decides (string_bytes (get_or files i d).name) (string_bytes (get_or files j d).name)).1 same)
 
 -- where the names differ, each is the first of its name
@@ -33,7 +33,7 @@ pub NamesDiffer-first : (files : List MemFile) (place : ℕ) (d : MemFile) → p
     → position (λ file. bytes_eq (string_bytes file.name) (string_bytes (get_or files place d).name)) files ≡ Some place
 NamesDiffer-first files place d within differ =
     ap (λ (n : ℕ). cond (nat_lt n (length files)) (Some n) None) (position_or_len_is passes files place d (omega arith)
-        (λ k before. not_true (passes (get_or files k d)) (λ e. differ k place d before within ((decides k).0 e))) (λ _. (decides place).1 refl))
+    (λ k before. not_true (passes (get_or files k d)) (λ e. differ k place d before within ((decides k).0 e))) (λ _. (decides place).1 refl))
     ∙ ap (λ (b : Bool). cond b (Some place) None) ((Decides-ltb place (length files)).1 within)
   where
     passes : MemFile → Bool
@@ -51,8 +51,8 @@ pub HoldsEach-new : (files : List MemFile) → NamesDiffer files → HoldsEach (
 HoldsEach-new files differ place d within =
     let file = get_or files place d in
     let there : find_file (new_desk files) (string_bytes file.name)
-            ≡ Some place = position-map (λ (f : List ℕ × List ℕ). bytes_eq f.0 (string_bytes file.name)) shown files
-            ∙ NamesDiffer-first files place d within differ in
+    ≡ Some place = position-map (λ (f : List ℕ × List ℕ). bytes_eq f.0 (string_bytes file.name)) shown files
+    ∙ NamesDiffer-first files place d within differ in
     ap (λ (o : Option ℕ). option_map (λ p. drop (start_at (new_desk files) p) (file_at (new_desk files) p).1) o) there
     ∙ ap (λ (k : ℕ). Some (drop k (file_at (new_desk files) place).1)) (same (bytes_eq (file_at (new_desk files) place).0 standard_input))
     ∙ ap (λ (f : List ℕ × List ℕ). Some f.1) (get_or-map shown files place d ([], []) within)

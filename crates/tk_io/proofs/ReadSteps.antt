@@ -64,10 +64,10 @@ Counts-more name old mid new before alike same after = record {
   no_fall = λ n. omega (arith, before.no_fall n, after.no_fall n);
   others = told_by old.holds (λ holds. (n : List ℕ) → holds n ≢ None → n ≢ name → new.faults n ≡ old.faults n) (λ holds e n has other.
       let here = some_of mid.holds (λ now. Alike now holds) (told_at old.holds (λ holds. IsSomeAnd mid.holds (λ now. Alike now holds)) holds e alike)
-              in
+      in
       let kept : here.0 n ≡ holds n = under n other holds e here.0 here.1 here.2 in
       told_at mid.holds (λ now. (n : List ℕ) → now n ≢ None → n ≢ name → new.faults n ≡ mid.faults n) here.0 here.1 after.others n
-          (λ (gone : here.0 n ≡ None). has (sym kept ∙ gone)) other
+      (λ (gone : here.0 n ≡ None). has (sym kept ∙ gone)) other
       ∙ told_at old.holds (λ holds. (n : List ℕ) → holds n ≢ None → n ≢ name → mid.faults n ≡ old.faults n) holds e before.others n has other);
   sure = after.sure ∙ before.sure;
 }
@@ -88,7 +88,7 @@ Alike-more : (name : List ℕ) (old mid new : Shelved) → IfSome old.holds (λ 
 Alike-more name old mid new before other input =
     told_by old.holds (λ holds. IsSomeAnd new.holds (λ now. Alike now holds)) (λ holds e.
     let here = some_of mid.holds (λ now. Alike now holds) (told_at old.holds (λ holds. IsSomeAnd mid.holds (λ now. Alike now holds)) holds e before)
-            in
+    in
     elim (by_name name) [
       | inl is ↦ subst (λ (o : Option Holds). IsSomeAnd o (λ now. Alike now holds)) (sym (told_at mid.holds (λ now. new.holds
           ≡ Some (with_input new.left now)) here.0 here.1 (input is)))
@@ -107,11 +107,11 @@ rest_left :
 rest_left name old mid new n is others input left =
     told_by old.holds (λ holds. new.holds ≡ Some (with_input (Some (drop n (unwrap_or (holds standard_input) []))) holds)) (λ holds e.
     let here = some_of mid.holds (λ now. Alike now holds) (told_at old.holds (λ holds. IsSomeAnd mid.holds (λ now. Alike now holds)) holds e others)
-            in
+    in
     told_at mid.holds (λ now. new.holds ≡ Some (with_input new.left now)) here.0 here.1 (input is)
     ∙ ap (λ (h : Holds). Some h) (with_input-alike new.left here.0 holds here.2)
     ∙ ap (λ (l : Option (List ℕ)). Some (with_input l holds)) (told_at old.holds (λ holds. new.left
-        ≡ Some (drop n (unwrap_or (holds name) []))) holds e left)
+    ≡ Some (drop n (unwrap_or (holds name) []))) holds e left)
     ∙ ap (λ (m : List ℕ). Some (with_input (Some (drop n (unwrap_or (holds m) []))) holds)) is)
 
 -- what is left once so many bytes were taken
@@ -137,7 +137,7 @@ SoFar-more name old mid new bytes buffer n before read some fits = record {
       let whole_file = unwrap_or (holds name) [] in
       let out = handed holds e in
       ap (λ (w : List ℕ). w ++ take n buffer) (told_at old.holds (λ holds. bytes ≡ take (length bytes) (unwrap_or (holds name) [])) holds
-          e before.front)
+      e before.front)
       ∙ ap (λ (w : List ℕ). take (length bytes) whole_file ++ w) out.front
       ∙ sym (take-add (length bytes) n whole_file)
       ∙ ap (λ (k : ℕ). take k whole_file) (sym len));
@@ -201,9 +201,9 @@ ReadsAll-end name old mid new bytes buffer before read short room = record {
   ];
   emptied = λ is. told_by old.holds (λ holds. new.holds ≡ Some (with_input (Some []) holds)) (λ holds e.
       told_at old.holds (λ holds. new.holds ≡ Some (with_input (Some (drop (length bytes) (unwrap_or (holds standard_input) []))) holds)) holds e
-          (rest_left name old mid new (length bytes) is before.others read.input left_so)
+      (rest_left name old mid new (length bytes) is before.others read.input left_so)
       ∙ ap (λ (w : List ℕ). Some (with_input (Some w) holds)) (ap (λ (m : List ℕ). drop (length bytes) (unwrap_or (holds m) [])) (sym is)
-          ∙ none_left holds e));
+      ∙ none_left holds e));
   long_input = λ _ e. cc;
 }
   where
@@ -216,7 +216,7 @@ ReadsAll-end name old mid new bytes buffer before read short room = record {
     left_so : IfSome old.holds (λ holds. new.left ≡ Some (drop (length bytes) (unwrap_or (holds name) [])))
     left_so = told_by old.holds (λ holds. new.left ≡ Some (drop (length bytes) (unwrap_or (holds name) []))) (λ holds e.
         (told_at mid.left (λ left. HandsOut 0 buffer left new.left) (drop (length bytes) (unwrap_or (holds name) [])) (left_is holds e)
-            read.bytes).rest)
+        read.bytes).rest)
 
     none_left : (holds : Holds) → old.holds ≡ Some holds → drop (length bytes) (unwrap_or (holds name) []) ≡ []
     none_left holds e = told_at mid.left (λ left. left ≡ []) (drop (length bytes) (unwrap_or (holds name) [])) (left_is holds e) (read.ends refl room)
@@ -224,7 +224,7 @@ ReadsAll-end name old mid new bytes buffer before read short room = record {
     at_end : (holds : Holds) → old.holds ≡ Some holds → new.left ≡ Some []
     at_end holds e =
         let out = told_at mid.left (λ left. HandsOut 0 buffer left new.left) (drop (length bytes) (unwrap_or (holds name) []))
-                (left_is holds e) read.bytes in
+        (left_is holds e) read.bytes in
         out.rest ∙ ap (λ (w : List ℕ). Some (drop 0 w)) (none_left holds e)
 
     whole : (holds : Holds) → old.holds ≡ Some holds → bytes ≡ unwrap_or (holds name) []
@@ -232,7 +232,7 @@ ReadsAll-end name old mid new bytes buffer before read short room = record {
         let whole_file = unwrap_or (holds name) [] in
         let short : length whole_file ≤ length bytes = omega (arith, length-drop (length bytes) whole_file, ap length (none_left holds e)) in
         told_at old.holds (λ holds. bytes ≡ take (length bytes) (unwrap_or (holds name) [])) holds e before.front
-            ∙ take_all (length bytes) whole_file short
+        ∙ take_all (length bytes) whole_file short
 
 -- an error is passed on
 pub ReadsAll-error : {T : Type 0} (f : T → List ℕ) (name : List ℕ) (old new : Shelved) (result : Result T ReadRefusal) (e : ReadRefusal)

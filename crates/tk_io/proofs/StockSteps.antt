@@ -38,17 +38,17 @@ bytes_under-input desk place m here = fun_ext (λ n. by_test n (bytes_eq n stand
     at_input n is =
         ap (λ (o : Option ℕ). option_map (λ p. drop (start_at (record desk { input = m }) p) (file_at desk p).1) o) (ap (find_file desk) is ∙ here)
         ∙ ap (λ (k : ℕ). Some (drop k (file_at desk place).1)) (if_true (bytes_eq (file_at desk place).0 standard_input) ((file_at desk place).0
-            ≡ standard_input) m 0 (bytes_eq-Decides (file_at desk place).0 standard_input) (found_file_has_its_name desk place standard_input here))
+        ≡ standard_input) m 0 (bytes_eq-Decides (file_at desk place).0 standard_input) (found_file_has_its_name desk place standard_input here))
 
     other : (n : List ℕ) → (n ≡ standard_input → ⊥) → (q : Option ℕ) → find_file desk n ≡ q
         → option_map (λ p. drop (start_at (record desk { input = m }) p) (file_at desk p).1) q
-            ≡ option_map (λ p. drop (start_at desk p) (file_at desk p).1) q
+        ≡ option_map (λ p. drop (start_at desk p) (file_at desk p).1) q
     other n not None e = refl
     other n not (Some p) e =
         let name : (file_at desk p).0 ≡ standard_input → ⊥ = λ is. not (sym (found_file_has_its_name desk p n e) ∙ is) in
         let test = bytes_eq-Decides (file_at desk p).0 standard_input in
         ap (λ (k : ℕ). Some (drop k (file_at desk p).1)) (if_false (bytes_eq (file_at desk p).0 standard_input) ((file_at desk p).0 ≡ standard_input)
-            m 0 test name ∙ sym (if_false (bytes_eq (file_at desk p).0 standard_input) ((file_at desk p).0 ≡ standard_input) desk.input 0 test name))
+        m 0 test name ∙ sym (if_false (bytes_eq (file_at desk p).0 standard_input) ((file_at desk p).0 ≡ standard_input) desk.input 0 test name))
 
     by_test : (n : List ℕ) (b : Bool) → Decides b (n ≡ standard_input)
         → bytes_under (record desk { input = m }) n ≡ (if b then Some (drop m (file_at desk place).1) else bytes_under desk n)
@@ -68,8 +68,8 @@ other_counts_stay stock name n place None here there has other = absurd (has ref
 other_counts_stay stock name n None (Some q) here there has other = refl
 other_counts_stay stock name n (Some p) (Some q) here there has other =
     get_or-set_other stock.faults p q (count_on (slice_index stock.faults p) 1) 0 (λ (same : q ≡ p).
-        other (sym (found_file_has_its_name stock.desk q n there) ∙ ap (λ (k : ℕ). (file_at stock.desk k).0) same
-        ∙ found_file_has_its_name stock.desk p name here))
+    other (sym (found_file_has_its_name stock.desk q n there) ∙ ap (λ (k : ℕ). (file_at stock.desk k).0) same
+    ∙ found_file_has_its_name stock.desk p name here))
 
 -- what a fault of a name does to the counts
 Counts-blamed : (name : List ℕ) (stock : Stock) (current : Option ℕ) (taken : ℕ) (place : Option ℕ) → find_file stock.desk name ≡ place
@@ -145,7 +145,7 @@ is_named desk place name e is = (bytes_eq-Decides (file_at desk place).0 name).0
 pub Reads-moved : (name : List ℕ) (stock : Stock) (place n : ℕ) (before after : List ℕ) → IsDesk stock.desk → 1 ≤ stock.most
     → stock.desk.current ≡ Some place → is_current stock.desk name ≡ true
     → length after ≡ length before → n ≡ min (min (length before) stock.most) (length (file_at stock.desk place).1 - stock.desk.at)
-        → take n after ≡ take n (drop stock.desk.at (file_at stock.desk place).1)
+    → take n after ≡ take n (drop stock.desk.at (file_at stock.desk place).1)
     → Reads name (stock_means stock) (stock_means (called stock (moved_on stock.desk place n))) (Ok n) after
 Reads-moved name stock place n before after is some e open_ same count front = record {
   counts = record { no_fall = λ m. omega arith; others = λ m has other. refl; sure = refl };
@@ -155,10 +155,10 @@ Reads-moved name stock place n before after is some e open_ same count front = r
   bound = omega (arith, count, same);
   bytes = subst (λ (o : Option ℕ). IfSome (option_map (λ p. drop desk.at (file_at desk p).1) o) (λ left. HandsOut n after left
       (option_map (λ p. drop (desk.at + n) (file_at desk p).1) o))) (sym e) record {
-    within = omega (arith, count, length-drop desk.at (file_at desk place).1);
-    front = front;
-    rest = ap (λ (w : List ℕ). Some w) (sym (drop-drop n desk.at (file_at desk place).1));
-  };
+        within = omega (arith, count, length-drop desk.at (file_at desk place).1);
+        front = front;
+        rest = ap (λ (w : List ℕ). Some w) (sym (drop-drop n desk.at (file_at desk place).1));
+      };
   ends = λ none room. subst (λ (o : Option ℕ). IfSome (option_map (λ p. drop desk.at (file_at desk p).1) o) (λ left. left ≡ [])) (sym e)
       (drop_all desk.at (file_at desk place).1 (omega (arith, count, same, none, room, some)));
   taken = refl;
@@ -169,9 +169,9 @@ Reads-moved name stock place n before after is some e open_ same count front = r
       (λ is. other (sym named_so ∙ is)));
   input = λ is_dash.
       ap (λ (k : ℕ). Some (bytes_under (record desk { input = k }))) (if_true (bytes_eq (file_at desk place).0 standard_input) ((file_at desk place).0
-          ≡ standard_input) (desk.at + n) desk.input (bytes_eq-Decides (file_at desk place).0 standard_input) (named_so ∙ is_dash))
+      ≡ standard_input) (desk.at + n) desk.input (bytes_eq-Decides (file_at desk place).0 standard_input) (named_so ∙ is_dash))
       ∙ ap (λ (h : List ℕ → Option (List ℕ)). Some h) (bytes_under-input desk place (desk.at + n) (ap (find_file desk) (sym (named_so ∙ is_dash))
-          ∙ is.first place e)
+      ∙ is.first place e)
       ∙ ap (λ (o : Option ℕ). with_input (option_map (λ p. drop (desk.at + n) (file_at desk p).1) o) (bytes_under desk)) (sym e));
 }
   where
@@ -223,20 +223,20 @@ called-is inside old desk calls f same is counted =
 pub Opens-blamed : (name : List ℕ) (old mid new : Stock) (failed : Failed) (place : Option ℕ)
     → mid ≡ called old (record old.desk { current = None; taken = 0 }) → new ≡ blamed place mid
     → ((of : Option ℕ) → count_at mid of ≤ count_at new of) → find_file old.desk name ≡ place → ((p : ℕ) → place ≡ Some p → p < length old.faults)
-        → Opens name (stock_means old) (stock_means new) (Err failed)
+    → Opens name (stock_means old) (stock_means new) (Err failed)
 Opens-blamed name old mid new failed place m n no_fall here fits =
     subst (λ (s : Stock). Opens name (stock_means old) (stock_means s) (Err failed)) (sym (n ∙ ap (blamed place) m))
     (Opens-failed name old failed place here fits (λ of. subst (λ (s : Stock). count_at s of ≤ count_at (blamed place s) of) m
-        (subst (λ (s : Stock). count_at mid of ≤ count_at s of) n (no_fall of))))
+    (subst (λ (s : Stock). count_at mid of ≤ count_at s of) n (no_fall of))))
 
 pub Reads-blamed : (name : List ℕ) (old mid new : Stock) (failed : Failed) (place : ℕ) (buffer : List ℕ) → mid ≡ called old old.desk
     → new ≡ blamed (Some place) mid
     → ((of : Option ℕ) → count_at mid of ≤ count_at new of) → IsDesk old.desk → place < length old.faults → old.desk.current ≡ Some place
-        → is_current old.desk name ≡ true → Reads name (stock_means old) (stock_means new) (Err failed) buffer
+    → is_current old.desk name ≡ true → Reads name (stock_means old) (stock_means new) (Err failed) buffer
 Reads-blamed name old mid new failed place buffer m n no_fall is fits e open_ =
     subst (λ (s : Stock). Reads name (stock_means old) (stock_means s) (Err failed) buffer) (sym (n ∙ ap (blamed (Some place)) m))
     (Reads-failed name old failed place buffer is fits e open_ (λ of. subst (λ (s : Stock). count_at s of ≤ count_at (blamed (Some place) s) of) m
-        (subst (λ (s : Stock). count_at mid of ≤ count_at s of) n (no_fall of))))
+    (subst (λ (s : Stock). count_at mid of ≤ count_at s of) n (no_fall of))))
 
 -- there is a count for each file
 pub fits_there : (stock : Stock) (place : ℕ) (name : List ℕ) → length stock.faults ≡ length stock.desk.files → find_file stock.desk name ≡ Some place
@@ -286,7 +286,7 @@ ReadsStock-listed old mid new failed place buffer m n e listed =
 pub ReadsStock-moved : (old new : Stock) (place n : ℕ) (before after : List ℕ) → old.desk.current ≡ Some place
     → is_listed old.failing (count_on old.calls 1) ≡ false → new ≡ called old (moved_on old.desk place n)
     → n ≡ min (min (length before) old.most) (length (file_at old.desk place).1 - old.desk.at)
-        → take n after ≡ take n (drop old.desk.at (file_at old.desk place).1) → drop n after ≡ drop n before
+    → take n after ≡ take n (drop old.desk.at (file_at old.desk place).1) → drop n after ≡ drop n before
     → IfSome old.desk.current (λ place. ReadsStock place old new (Ok n) before after)
 ReadsStock-moved old new place n before after e unlisted moved count front rest =
     subst (λ (o : Option ℕ). IfSome o (λ place. ReadsStock place old new (Ok n) before after)) (sym e) record {

@@ -25,7 +25,7 @@ sure_holds-input desk place m here = fun_ext (λ n.
   where
     by_test : (b : Bool) (h : Option (List ℕ))
         → option_or (if b then Some (drop m (file_at desk place).1) else h) (if b then Some [] else None)
-            ≡ (if b then Some (drop m (file_at desk place).1) else option_or h (if b then Some [] else None))
+        ≡ (if b then Some (drop m (file_at desk place).1) else option_or h (if b then Some [] else None))
     by_test true h = refl
     by_test false h = refl
 
@@ -59,9 +59,9 @@ nothing_else shelf place is e = by_absent shelf.absent is.shut
 pub Sure-moved : (name : List ℕ) (desk : OnDesk) (place n : ℕ) (before after : List ℕ) → IsDesk desk → desk.current ≡ Some place
     → is_current desk name ≡ true
     → length after ≡ length before → n ≡ min (length before) (length (file_at desk place).1 - desk.at)
-        → take n after ≡ take n (drop desk.at (file_at desk place).1)
+    → take n after ≡ take n (drop desk.at (file_at desk place).1)
     → Reads name (sure_means (record { desk = desk; absent = Nothing })) (sure_means (record { desk = moved_on desk place n; absent = Nothing }))
-        (Ok n) after
+    (Ok n) after
 Sure-moved name desk place n before after is e open_ same count front = record {
   counts = record { no_fall = λ m. omega arith; others = λ m has other. refl; sure = refl };
   cause = tt;
@@ -70,10 +70,10 @@ Sure-moved name desk place n before after is e open_ same count front = record {
   bound = omega (arith, count, same);
   bytes = subst (λ (o : Option ℕ). IfSome (option_map (λ p. drop desk.at (file_at desk p).1) o) (λ left. HandsOut n after left
       (option_map (λ p. drop (desk.at + n) (file_at desk p).1) o))) (sym e) record {
-    within = omega (arith, count, length-drop desk.at (file_at desk place).1);
-    front = front;
-    rest = ap (λ (w : List ℕ). Some w) (sym (drop-drop n desk.at (file_at desk place).1));
-  };
+        within = omega (arith, count, length-drop desk.at (file_at desk place).1);
+        front = front;
+        rest = ap (λ (w : List ℕ). Some w) (sym (drop-drop n desk.at (file_at desk place).1));
+      };
   ends = λ none room. subst (λ (o : Option ℕ). IfSome (option_map (λ p. drop desk.at (file_at desk p).1) o) (λ left. left ≡ [])) (sym e)
       (drop_all desk.at (file_at desk place).1 (omega (arith, count, same, none, room)));
   taken = refl;
@@ -84,9 +84,9 @@ Sure-moved name desk place n before after is e open_ same count front = record {
       (λ is. other (sym named_so ∙ is)));
   input = λ is_dash.
       ap (λ (k : ℕ). Some (sure_holds (record desk { input = k }))) (if_true (bytes_eq (file_at desk place).0 standard_input) ((file_at desk place).0
-          ≡ standard_input) (desk.at + n) desk.input (bytes_eq-Decides (file_at desk place).0 standard_input) (named_so ∙ is_dash))
+      ≡ standard_input) (desk.at + n) desk.input (bytes_eq-Decides (file_at desk place).0 standard_input) (named_so ∙ is_dash))
       ∙ ap (λ (h : List ℕ → Option (List ℕ)). Some h) (sure_holds-input desk place (desk.at + n) (ap (find_file desk) (sym (named_so ∙ is_dash))
-          ∙ is.first place e)
+      ∙ is.first place e)
       ∙ ap (λ (o : Option ℕ). with_input (option_map (λ p. drop (desk.at + n) (file_at desk p).1) o) (sure_holds desk)) (sym e));
 }
   where
@@ -97,7 +97,7 @@ Sure-moved name desk place n before after is e open_ same count front = record {
 pub Sure-read : (name : List ℕ) (old : Sure) (desk : OnDesk) (absent : Absent) (place n : ℕ) (before after : List ℕ) → IsSure old → IsDesk old.desk
     → old.desk.current ≡ Some place → sure_open old.desk old.absent name ≡ true
     → length after ≡ length before → n ≡ min (length before) (length (file_at old.desk place).1 - old.desk.at)
-        → take n after ≡ take n (drop old.desk.at (file_at old.desk place).1)
+    → take n after ≡ take n (drop old.desk.at (file_at old.desk place).1)
     → desk ≡ moved_on old.desk place n → absent ≡ old.absent
     → Reads name (sure_means old) (sure_means (record { desk = desk; absent = absent })) (Ok n) after
 Sure-read name old desk absent place n before after sure is e open_ same count front moved kept =
@@ -105,8 +105,8 @@ Sure-read name old desk absent place n before after sure is e open_ same count f
     let is_open : is_current old.desk name ≡ true = subst (λ (a : Absent). sure_open old.desk a name ≡ true) nothing open_ in
     let read = Sure-moved name old.desk place n before after is e is_open same count front in
     let moved_so = subst (λ (d : OnDesk). Reads name (sure_means (record { desk = old.desk; absent = Nothing }))
-            (sure_means (record { desk = d; absent = Nothing })) (Ok n) after) (sym moved) read in
+    (sure_means (record { desk = d; absent = Nothing })) (Ok n) after) (sym moved) read in
     let kept_so = subst (λ (a : Absent). Reads name (sure_means (record { desk = old.desk; absent = Nothing }))
-            (sure_means (record { desk = desk; absent = a })) (Ok n) after) (sym (kept ∙ nothing)) moved_so in
+    (sure_means (record { desk = desk; absent = a })) (Ok n) after) (sym (kept ∙ nothing)) moved_so in
     subst (λ (a : Absent). Reads name (sure_means (record { desk = old.desk; absent = a })) (sure_means (record { desk = desk; absent = absent }))
-        (Ok n) after) (sym nothing) kept_so
+    (Ok n) after) (sym nothing) kept_so

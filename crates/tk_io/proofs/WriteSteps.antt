@@ -12,4 +12,4 @@ Takes-more old mid new piece k n before then =
     let here : mid.bytes ≡ Some (bytes ++ take k piece) = told_at old.bytes (λ b. mid.bytes ≡ Some (b ++ take k piece)) bytes e before in
     told_at mid.bytes (λ b. new.bytes ≡ Some (b ++ take n (drop k piece))) (bytes ++ take k piece) here then
     ∙ ap (λ (w : List ℕ). Some w) (append_assoc bytes (take k piece) (take n (drop k piece))
-        ∙ ap (λ (w : List ℕ). bytes ++ w) (sym (take-add k n piece))))
+    ∙ ap (λ (w : List ℕ). bytes ++ w) (sym (take-add k n piece))))

@@ -25,16 +25,28 @@ in_turn : (f g h : Frame) → IsWithin f g → IsWithin g h → IsWithin f h
 in_turn f g h a b = record { left = omega (arith, ints); bottom = omega (arith, ints); right = omega (arith, ints); top = omega (arith, ints) }
 
 first_within : (f g : Frame) → IsWithin f (joined f g)
-first_within f g = record { left = omega (arith, ints, clamps); bottom = omega (arith, ints, clamps); right = omega (arith, ints, clamps);
-    top = omega (arith, ints, clamps) }
+first_within f g = record {
+  left = omega (arith, ints, clamps);
+  bottom = omega (arith, ints, clamps);
+  right = omega (arith, ints, clamps);
+  top = omega (arith, ints, clamps);
+}
 
 second_within : (f g : Frame) → IsWithin g (joined f g)
-second_within f g = record { left = omega (arith, ints, clamps); bottom = omega (arith, ints, clamps); right = omega (arith, ints, clamps);
-    top = omega (arith, ints, clamps) }
+second_within f g = record {
+  left = omega (arith, ints, clamps);
+  bottom = omega (arith, ints, clamps);
+  right = omega (arith, ints, clamps);
+  top = omega (arith, ints, clamps);
+}
 
 both_within : (f g h : Frame) → IsWithin f h → IsWithin g h → IsWithin (joined f g) h
-both_within f g h a b = record { left = omega (arith, ints, clamps); bottom = omega (arith, ints, clamps); right = omega (arith, ints, clamps);
-    top = omega (arith, ints, clamps) }
+both_within f g h a b = record {
+  left = omega (arith, ints, clamps);
+  bottom = omega (arith, ints, clamps);
+  right = omega (arith, ints, clamps);
+  top = omega (arith, ints, clamps);
+}
 
 -- ---- the least box
 
@@ -52,13 +64,16 @@ least_round_parted f g boxes h is = record {
   least = λ other all.
       let rest : AreWithin (g ∷ boxes) other = All-tail (inside other) f (g ∷ boxes) all in
       let both : IsWithin (joined f g) other = both_within f g other (All-head (inside other) f (g ∷ boxes) all)
-              (All-head (inside other) g boxes rest) in
+      (All-head (inside other) g boxes rest) in
       is.least other (All-cons (inside other) (joined f g) boxes both (All-tail (inside other) g boxes rest));
 }
 
 least_of_all : (boxes : List Frame) (f : Frame) → IfSome (round_boxes (Some f) boxes) (IsLeastRound (f ∷ boxes))
-least_of_all [] f = record { round = All-cons (inside f) f [] (frame_within_itself f) (All-nil (inside f)); least = λ other all.
-    All-head (inside other) f [] all }
+least_of_all [] f = record {
+  round = All-cons (inside f) f [] (frame_within_itself f) (All-nil (inside f));
+  least = λ other all.
+      All-head (inside other) f [] all;
+}
 least_of_all (g ∷ boxes) f = IfSome_then (round_boxes (Some (joined f g)) boxes) (least_of_all boxes (joined f g)) (least_round_parted f g boxes)
 
 -- what is folded from boxes is the least box round them
@@ -77,7 +92,7 @@ one_least boxes f g a b =
     let there : IsWithin f g = a.least g b.round in
     let back : IsWithin g f = b.least f a.round in
     same_sides f.left f.bottom f.right f.top g.left g.bottom g.right g.top (omega (arith, ints)) (omega (arith, ints)) (omega (arith, ints))
-        (omega (arith, ints))
+    (omega (arith, ints))
 
 -- ---- none
 

@@ -59,8 +59,13 @@ module _ (P : ℕ → Type 0) where
   same_later s h = record { units = omega arith; levels = (λ _. s.env.levels); lists = (λ _. s.env.lists); env = h }
 
   pub later_then : (s r q : Situation) → Later s r → Later r q → Later s q
-  later_then s r q f g = record { units = (let a = f.units in let b = g.units in omega arith); levels = g.levels ∙ f.levels; lists = g.lists
-      ∙ f.lists; env = g.env }
+  later_then s r q f g = record {
+    units = (let a = f.units in let b = g.units in omega arith);
+    levels = g.levels ∙ f.levels;
+    lists = g.lists
+        ∙ f.lists;
+    env = g.env;
+  }
 
   paid_at : (budget units cost at : ℕ) → P at → Stands P (λ _. Unit {0}) (pay budget units cost at)
   paid_at budget units cost at p = if_at P (λ _. Unit {0}) (nat_lt budget (units + cost)) _ _ p tt
@@ -83,8 +88,11 @@ module _ (P : ℕ → Type 0) where
   sooner_text budget a b c (Some ts) le h = (h.0, ((let k = h.1.0 in omega arith), h.1.1))
 
   deed_later : (budget : ℕ) (s r : Situation) (d : Deed) → Later s r → DeedAt budget r d → DeedAt budget s d
-  deed_later budget s r d f g = record { now = later_then s r d.now f g.now; text = sooner_text budget s.units r.units d.now.units d.text
-      f.units g.text }
+  deed_later budget s r d f g = record {
+    now = later_then s r d.now f g.now;
+    text = sooner_text budget s.units r.units d.now.units d.text
+        f.units g.text;
+  }
 
   deed_at : (budget : ℕ) (s r : Situation) (m : Answer Deed) → Later s r → Stands P (DeedAt budget r) m → Stands P (DeedAt budget s) m
   deed_at budget s r (Ok d) f g = deed_later budget s r d f g
@@ -92,8 +100,13 @@ module _ (P : ℕ → Type 0) where
 
   pub text_set_at : (s : Situation) (word : ℕ) (text : List Tok) → EnvAt P s.env → StandAt P text → Later s (with_text s word text)
   text_set_at s word text h k =
-      record { units = omega arith; levels = (λ _. s.env.levels); lists = (λ _. s.env.lists); env = with_macro_at P s.env word
-          (record { args = 0; body = text }) h k }
+      record {
+        units = omega arith;
+        levels = (λ _. s.env.levels);
+        lists = (λ _. s.env.lists);
+        env = with_macro_at P s.env word
+            (record { args = 0; body = text }) h k;
+      }
 
   pub key_set_at : (s : Situation) (path : List ℕ) (entry : Entry) → EnvAt P s.env → EntryAt P entry → Later s (with_key s path entry)
   key_set_at s path entry h k =
@@ -118,8 +131,8 @@ module _ (P : ℕ → Type 0) where
     expanded_name_at code at list s p h env =
         let from = stream s.units (unread list at) in
         then_at P (λ (r : Stream). StreamAt P r × (s.units ≤ r.units)) (λ (n : Named). Later s n.now) (full given.budget s.env.macros from) _
-            (both_at P (StreamAt P) (λ (r : Stream). s.units ≤ r.units) (full given.budget s.env.macros from) (full_at P given.budget s.env.macros
-            env.bodies from h) (full_spends given.budget s.env.macros from)) (λ r k.
+        (both_at P (StreamAt P) (λ (r : Stream). s.units ≤ r.units) (full given.budget s.env.macros from) (full_at P given.budget s.env.macros
+        env.bodies from h) (full_spends given.budget s.env.macros from)) (λ r k.
         by r k.1 (text_in r.list.rest))
       where
         by : (r : Stream) → s.units ≤ r.units → (o : Option (List ℕ))
@@ -139,7 +152,7 @@ module _ (P : ℕ → Type 0) where
     two_at at None p h = p
     two_at at (Some v) p h =
         then_at P (ArgumentsAt P) (AllByRecursion (StandAt P)) (arguments_of at 2 v) _ (arguments_at P at 2 v p h) (λ found k. nothing_left at
-            found.texts (after_spaces found.rest) p k.0)
+        found.texts (after_spaces found.rest) p k.0)
 
     or_empty_at : (value : Option (List Tok)) → IfSome value (StandAt P) → StandAt P (unwrap_or value [])
     or_empty_at None h = tt
@@ -160,8 +173,8 @@ module _ (P : ℕ → Type 0) where
         then_at P (AllByRecursion (StandAt P)) (CodeAt units) (code_arguments at args value) _ (code_arguments_at at args value p k) (λ arguments l.
         let text = with_arguments arguments body in
         then_at P (λ now. Unit {0} × ((now ≡ units + cost_of text) × (now ≤ given.budget))) (CodeAt units) (pay given.budget units (cost_of text) at)
-            _ (both_at P (λ _. Unit {0}) (λ now. (now ≡ units + cost_of text) × (now ≤ given.budget)) (pay given.budget units (cost_of text) at)
-            (paid_at given.budget units (cost_of text) at p) (paid_units_are_within given.budget units (cost_of text) at)) (λ now m.
+        _ (both_at P (λ _. Unit {0}) (λ now. (now ≡ units + cost_of text) × (now ≤ given.budget)) (pay given.budget units (cost_of text) at)
+        (paid_at given.budget units (cost_of text) at p) (paid_units_are_within given.budget units (cost_of text) at)) (λ now m.
         let spent = m.1.0 in
         record { text = with_arguments_at P arguments body l h; spent = omega arith; within = m.1.1 }))
 
@@ -176,22 +189,26 @@ module _ (P : ℕ → Type 0) where
     expanded_at at (Some list) s p h env =
         let from = stream s.units (unread list at) in
         then_at P (λ (r : Stream). StreamAt P r × (s.units ≤ r.units)) (ExpandedAt s.units) (full given.budget s.env.macros from) _
-            (both_at P (StreamAt P) (λ (r : Stream). s.units ≤ r.units) (full given.budget s.env.macros from) (full_at P given.budget s.env.macros
-            env.bodies from h) (full_spends given.budget s.env.macros from)) (λ r k.
+        (both_at P (StreamAt P) (λ (r : Stream). s.units ≤ r.units) (full given.budget s.env.macros from) (full_at P given.budget s.env.macros
+        env.bodies from h) (full_spends given.budget s.env.macros from)) (λ r k.
         record { value = k.0; spent = k.1 })
 
     graphics_later : (s : Situation) (units : ℕ) (graphics : GraphicsState) → s.units ≤ units → EnvAt P s.env
         → Later s (with_graphics (with_paid s units) graphics)
-    graphics_later s units graphics le h = record { units = le; levels = (λ _. s.env.levels); lists = (λ _. s.env.lists);
-        env = record { bodies = h.bodies; entries = h.entries } }
+    graphics_later s units graphics le h = record {
+      units = le;
+      levels = (λ _. s.env.levels);
+      lists = (λ _. s.env.lists);
+      env = record { bodies = h.bodies; entries = h.entries };
+    }
 
     native_at : (at : ℕ) (name : List ℕ) (key : Native) (value : Option (List Tok)) (s : Situation) → P at → IfSome value (StandAt P) → EnvAt P s.env
         → Stands P (DeedAt given.budget s) (set_native given at name key value s)
     native_at at name key value s p h env =
         then_at P (ExpandedAt s.units) (DeedAt given.budget s) (expanded_value given at value s) _ (expanded_at at value s p h env) (λ e k.
         then_at P (λ _. Unit {0}) (DeedAt given.budget s) (graphics_by at given.evaluate given.font key name e.value s.env.graphics) _
-            (only_fault P (graphics_by at given.evaluate given.font key name e.value s.env.graphics) (graphics_fine P at p given.evaluate given.font
-            (λ ts m. evaluates at ts p m) key name e.value s.env.graphics k.value)) (λ graphics _.
+        (only_fault P (graphics_by at given.evaluate given.font key name e.value s.env.graphics) (graphics_fine P at p given.evaluate given.font
+        (λ ts m. evaluates at ts p m) key name e.value s.env.graphics k.value)) (λ graphics _.
         done_at given.budget s (with_graphics (with_paid s e.units) graphics) (graphics_later s e.units graphics k.spent env)))
 
     pub run_stands : (at : ℕ) (name : List ℕ) (run : Run) (value : Option (List Tok)) (s : Situation) → P at → RunAt P run → IfSome value (StandAt P)
@@ -202,7 +219,7 @@ module _ (P : ℕ → Type 0) where
         (text_set_at s word (unwrap_or value []) env (or_empty_at value k))
     run_stands at name (runs.Code args body) value s p h k env =
         then_at P (CodeAt s.units) (DeedAt given.budget s) (code_text given.budget at args body value s.units) _ (code_text_at at args body value
-            s.units p h k) (λ paid_units_are_within m.
+        s.units p h k) (λ paid_units_are_within m.
         record { now = paid_later s paid_units_are_within.units (let l = m.spent in omega arith) env; text = (m.text, (m.spent, m.within)) })
 
     run_at_stands : (env : Env) (path : List ℕ) → EnvAt P env → IfSome (run_at env path) (RunAt P)
@@ -216,12 +233,12 @@ module _ (P : ℕ → Type 0) where
         → Stands P (DeedAt given.budget s) (choose given at path value s)
     choose_at at path value s p h env =
         then_at P (λ (n : Named). Later s n.now) (DeedAt given.budget s) (expanded_name given UnknownChoice at value s) _
-            (expanded_name_at UnknownChoice at value s p h env) (λ chosen k.
+        (expanded_name_at UnknownChoice at value s p h env) (λ chosen k.
         by chosen k (run_at chosen.now.env (path ++ slash ∷ chosen.name)) (run_at_stands chosen.now.env (path ++ slash ∷ chosen.name) k.env))
       where
         by : (chosen : Named) → Later s chosen.now → (o : Option Run) → IfSome o (RunAt P)
             → Stands P (DeedAt given.budget s) (or_fault o UnknownChoice at >>= λ run. keys.plain_run given at (name_in (path ++ slash ∷ chosen.name))
-                run None chosen.now)
+            run None chosen.now)
         by chosen k None l = p
         by chosen k (Some run) l = deed_at given.budget s chosen.now (keys.plain_run given at (name_in (path ++ slash ∷ chosen.name)) run None
             chosen.now) k (run_stands at (name_in (path ++ slash ∷ chosen.name)) run None chosen.now p l tt k.env)
@@ -254,12 +271,12 @@ module _ (P : ℕ → Type 0) where
         → Stands P (UsedAt s) (use_by given at path entry run stored value s)
     use_by_at at path entry (Some run) stored value s p h l k env =
         then_at P (λ taken. IfSome taken (StandAt P)) (UsedAt s) (value_by at entry.need value) _ (value_at at entry.need value p h.need
-            k) (λ taken m.
+        k) (λ taken m.
         then_at P (DeedAt given.budget s) (UsedAt s) (run_key given at path (name_in path) run taken s) _ (run_key_at at path (name_in path) run taken
-            s p l m env) (λ deed d. d))
+        s p l m env) (λ deed d. d))
     use_by_at at path entry None (Some old) value s p h l k env =
         then_at P (λ taken. IfSome taken (StandAt P)) (UsedAt s) (value_by at entry.need value) _ (value_at at entry.need value p h.need k)
-            (λ taken m. by taken m)
+        (λ taken m. by taken m)
       where
         by : (o : Option (List Tok)) → IfSome o (StandAt P)
             → Stands P (UsedAt s) (or_fault o ValueRequired at >>= λ new. Ok (Some (done (with_key s path (record entry { value = Some new })))))
@@ -316,11 +333,11 @@ module _ (P : ℕ → Type 0) where
         → EnvAt P s.env → Stands P (DeedAt given.budget s) (edit given at handler path value s)
     edit_at at handler path value s p k env =
         then_at P (EntryAt P) (DeedAt given.budget s) (edited (also_word given) at handler (map.get s.env.keys path) value) _
-            (edited_at P (also_word given) at p handler (map.get s.env.keys path) value (known_entry P s.env.keys path env.entries) k) (λ entry h.
+        (edited_at P (also_word given) at p handler (map.get s.env.keys path) value (known_entry P s.env.keys path env.entries) k) (λ entry h.
         then_at P (PaidFrom s.units) (DeedAt given.budget s) (edit_paid given at handler entry.run s.units) _ (edit_paid_at at handler entry.run
-            s.units p) (λ now le.
+        s.units p) (λ now le.
         done_at given.budget s (with_key (with_paid s now) path entry) (later_then s (with_paid s now) (with_key (with_paid s now) path entry)
-            (paid_later s now le env) (key_set_at (with_paid s now) path entry env h))))
+        (paid_later s now le env) (key_set_at (with_paid s now) path entry env h))))
 
     staying_at : (dir : List ℕ) (m : Answer Deed) (s : Situation) → Stands P (DeedAt given.budget s) m → Stands P (EffectAt given s) (staying dir m)
     staying_at dir m s h = then_at P (DeedAt given.budget s) (EffectAt given s) m _ h (λ deed k. k)
@@ -334,7 +351,7 @@ module _ (P : ℕ → Type 0) where
     handle_at at Cd path value dir s p k env = done_at given.budget s s (same_later s env)
     handle_at at Try path value dir s p k env =
         staying_at dir _ s (then_at P (UsedAt s) (DeedAt given.budget s) (use_key given at path value s) _ (use_key_at at path value s p k env)
-            (λ used h. or_not_at s used env h))
+        (λ used h. or_not_at s used env h))
     handle_at at CodeHandler path value dir s p k env = staying_at dir _ s (edit_at at CodeHandler path value s p k env)
     handle_at at CodeTwo path value dir s p k env = staying_at dir _ s (edit_at at CodeTwo path value s p k env)
     handle_at at Style path value dir s p k env = staying_at dir _ s (edit_at at Style path value s p k env)
@@ -355,7 +372,7 @@ module _ (P : ℕ → Type 0) where
         let r = with_text s (current_key given) (tokens_of at path) in
         let f = text_set_at s (current_key given) (tokens_of at path) env (text_stands P at path p) in
         later_then s r (announced given at path s) f (text_set_at r (current_name given) (tokens_of at (name_in path)) f.env
-            (text_stands P at (name_in path) p))
+        (text_stands P at (name_in path) p))
 
     runner_at : (env : Env) (path : List ℕ) → EnvAt P env → IfSome (runner env path) (λ r. RunAt P r.1)
     runner_at env path h = by (run_at env path) (run_at_stands env path h)
@@ -373,16 +390,16 @@ module _ (P : ℕ → Type 0) where
         → Stands P (DeedAt given.budget s) (unknown given at path value s)
     unknown_at at path value s p k env =
         by (stand_in s.env path) (first_stands (runner s.env (unknown_below (parent_of path))) (runner s.env (unknown_below (codes "/handlers")))
-            (runner_at s.env (unknown_below (parent_of path)) env) (runner_at s.env (unknown_below (codes "/handlers")) env))
+        (runner_at s.env (unknown_below (parent_of path)) env) (runner_at s.env (unknown_below (codes "/handlers")) env))
       where
         by : (o : Option (List ℕ × Run)) → IfSome o (λ r. RunAt P r.1)
             → Stands P (DeedAt given.budget s) (or_fault o UnknownKey at >>= λ other. run_key given at other.0 (name_in path) other.1 value
-                (announced given at path s))
+            (announced given at path s))
         by None h = p
         by (Some other) h =
             let f = announced_at at path s p env in
             deed_at given.budget s (announced given at path s) (run_key given at other.0 (name_in path) other.1 value (announced given at path s)) f
-                (run_key_at at other.0 (name_in path) other.1 value (announced given at path s) p h k f.env)
+            (run_key_at at other.0 (name_in path) other.1 value (announced given at path s) p h k f.env)
 
     handled_or_at : (at : ℕ) (handler : Option Handler) (path : List ℕ) (value : Option (List Tok)) (dir : List ℕ) (s : Situation) → P at
         → IfSome value (StandAt P) → EnvAt P s.env → Stands P (EffectAt given s) (handle_or_unknown given at handler path value dir s)
@@ -398,7 +415,7 @@ module _ (P : ℕ → Type 0) where
         → Stands P (EffectAt given s) (key given at path value dir s)
     key_at at path value dir s p k env =
         then_at P (UsedAt s) (EffectAt given s) (use_key given at path value s) _ (use_key_at at path value s p k env) (λ used h. used_or_at at used
-            path value dir s p k env h)
+        path value dir s p k env h)
 
     effect_later : (s r : Situation) (m : Answer Effect) → Later s r → Stands P (EffectAt given r) m → Stands P (EffectAt given s) m
     effect_later s r (Ok e) f g = deed_later given.budget s r e.deed f g
@@ -408,6 +425,6 @@ module _ (P : ℕ → Type 0) where
     unfolding part
     part_at p dir s h env =
         then_at P (λ (n : Named). Later s n.now) (EffectAt given s) (expanded_name given UnknownKey p.at p.name s) _ (expanded_name_at UnknownKey p.at
-            p.name s h.at h.name env) (λ name k.
+        p.name s h.at h.name env) (λ name k.
         effect_later s name.now (key given p.at (full_path dir name.name) p.value dir name.now) k (key_at p.at (full_path dir name.name) p.value dir
-            name.now h.at h.value k.env))
+        name.now h.at h.value k.env))

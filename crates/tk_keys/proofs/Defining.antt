@@ -41,24 +41,24 @@ module _ (P : ℕ → Type 0) (n end : ℕ) where
       then_at P (TokenWithin P n end) Counted (next_token MacroSyntax list) _ (token_within P n end MacroSyntax list h) (λ next k.
       if_at P Counted (is_param next.value.kind) _ _
       (then_at P (Within P n end) Counted (after_token MacroSyntax (is_char (digit (count + 1))) next.list) _ (after_token_within P n end MacroSyntax
-          (is_char (digit (count + 1))) next.list k.list) (λ behind m. parameters_within more (suc count) behind m))
+      (is_char (digit (count + 1))) next.list k.list) (λ behind m. parameters_within more (suc count) behind m))
       (opened_within count list h))
 
   start_within : (list : Unread) → Within P n end list → Stands P (TokenWithin P n end) (name_start list)
   unfolding name_start
   start_within list h =
       then_at P (TokenWithin P n end) (TokenWithin P n end) (next_token MacroSyntax (past_spaces list)) _ (token_within P n end MacroSyntax
-          (past_spaces list) (spaces_within P n end list h)) (λ first k.
+      (past_spaces list) (spaces_within P n end list h)) (λ first k.
       if_at P (TokenWithin P n end) (is_char star first.value.kind) _ _ (token_within P n end MacroSyntax (past_spaces first.list)
-          (spaces_within P n end first.list k.list)) k)
+      (spaces_within P n end first.list k.list)) k)
 
   braced_within : (list : Unread) → Within P n end list → Stands P Counted (braced_name list)
   unfolding braced_name
   braced_within list h =
       then_at P Counted Counted (token_value MacroSyntax word_of (past_spaces list)) _ (value_within P n end MacroSyntax word_of (past_spaces list)
-          (spaces_within P n end list h)) (λ word k.
+      (spaces_within P n end list h)) (λ word k.
       then_at P (Within P n end) Counted (after_token MacroSyntax is_close (past_spaces word.list)) _ (after_token_within P n end MacroSyntax is_close
-          (past_spaces word.list) (spaces_within P n end word.list k)) (λ behind m. m))
+      (past_spaces word.list) (spaces_within P n end word.list k)) (λ behind m. m))
 
   name_from_within : (k : Kind) (at : ℕ) (list : Unread) → P at → Within P n end list → Stands P Counted (name_from k at list)
   name_from_within (Word w) at list p h = h
@@ -79,11 +79,11 @@ module _ (P : ℕ → Type 0) (n end : ℕ) where
   unfolding bracketed_count
   bracketed_within list h =
       then_at P Counted Counted (token_value MacroSyntax digit_of (past_spaces list)) _ (value_within P n end MacroSyntax digit_of (past_spaces list)
-          (spaces_within P n end list h)) (λ count k.
+      (spaces_within P n end list h)) (λ count k.
       then_at P (Within P n end) Counted (after_token MacroSyntax (is_char right_bracket) (past_spaces count.list)) _ (after_token_within P n end
-          MacroSyntax (is_char right_bracket) (past_spaces count.list) (spaces_within P n end count.list k)) (λ behind l.
+      MacroSyntax (is_char right_bracket) (past_spaces count.list) (spaces_within P n end count.list k)) (λ behind l.
       then_at P (Within P n end) Counted (after_token MacroSyntax is_open (past_spaces behind)) _ (after_token_within P n end MacroSyntax is_open
-          (past_spaces behind) (spaces_within P n end behind l)) (λ inside m. m)))
+      (past_spaces behind) (spaces_within P n end behind l)) (λ inside m. m)))
 
   count_from_within : (k : Kind) (at : ℕ) (list : Unread) → P at → Within P n end list → Stands P Counted (count_from k at list)
   count_from_within Open at list p h = h
@@ -159,7 +159,7 @@ module _ (P : ℕ → Type 0) (n end : ℕ) where
   unfolding body_in
   body_within args list h =
       then_at P GroupWithin BodyWithin (or_fault (group_of list.rest) MacroSyntax list.end) _ (group_within list.rest list.end (group_of list.rest)
-          h.same h.last h.short (group_keeps (λ (t : Tok). P t.at) list.rest h.rest) (group_shorter list.rest)) (λ c k.
+      h.same h.last h.short (group_keeps (λ (t : Tok). P t.at) list.rest h.rest) (group_shorter list.rest)) (λ c k.
       then_at P (StandAt P) BodyWithin (body_of args c.front) _ (body_of_at args c.front k.0) (λ body p.
       record { body = p; list = record { short = k.1.short; rest = k.1.rest; same = h.same; last = h.last } }))
 
@@ -176,7 +176,7 @@ module _ (P : ℕ → Type 0) (n end : ℕ) where
       then_at P Counted DefinitionWithin (token_value MacroSyntax word_of list) _ (value_within P n end MacroSyntax word_of list h) (λ name a.
       then_at P Counted DefinitionWithin (parameters 0 9 name.list) _ (parameters_within 9 0 name.list a) (λ params b.
       then_at P BodyWithin DefinitionWithin (body_in params.value params.list) _ (body_within params.value params.list b)
-          (λ body c. record { body = c.body; list = c.list })))
+      (λ body c. record { body = c.body; list = c.list })))
 
   command_within : (list : Unread) → Within P n end list → Stands P DefinitionWithin (new_command list)
   unfolding new_command
@@ -184,7 +184,7 @@ module _ (P : ℕ → Type 0) (n end : ℕ) where
       then_at P Counted DefinitionWithin (name_of list) _ (name_within list h) (λ name a.
       then_at P Counted DefinitionWithin (count_of name.list) _ (count_within name.list a) (λ count b.
       then_at P BodyWithin DefinitionWithin (body_in count.value count.list) _ (body_within count.value count.list b)
-          (λ body c. record { body = c.body; list = c.list })))
+      (λ body c. record { body = c.body; list = c.list })))
 
   -- what a definition leaves
   pub record DefinedWithin (units : ℕ) (d : Defined) : Type 0 where
@@ -201,14 +201,14 @@ module _ (P : ℕ → Type 0) (n end : ℕ) where
   unfolding edef
   edef_within budget macros s bodies h =
       then_at P Counted (DefinedWithin s.units) (token_value MacroSyntax word_of s.list) _ (value_within P n end MacroSyntax word_of s.list h)
-          (λ name a.
+      (λ name a.
       then_at P (Within P n end) (DefinedWithin s.units) (after_token MacroSyntax is_open name.list) _ (after_token_within P n end MacroSyntax is_open
-          name.list a) (λ inside b.
+      name.list a) (λ inside b.
       then_at P BodyWithin (DefinedWithin s.units) (body_in 0 inside) _ (body_within 0 inside b) (λ written c.
       let text = stream s.units (unread written.value s.list.end) in
       then_at P (λ (r : Stream). StreamAt P r × (s.units ≤ r.units)) (DefinedWithin s.units) (full budget macros text) _
-          (both_at P (StreamAt P) (λ (r : Stream). s.units ≤ r.units) (full budget macros text) (full_at P budget macros bodies text c.body)
-          (full_spends budget macros text)) (λ r d.
+      (both_at P (StreamAt P) (λ (r : Stream). s.units ≤ r.units) (full budget macros text) (full_at P budget macros bodies text c.body)
+      (full_spends budget macros text)) (λ r d.
       record { spent = d.1; list = c.list; body = d.0 }))))
 
   pub defined_within : (kind : Command) (budget : ℕ) (macros : Macros) (s : Stream) → BodiesAt P macros → Within P n end s.list

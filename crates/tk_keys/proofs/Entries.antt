@@ -105,7 +105,7 @@ module _ (P : ℕ → Type 0) where
         → Stands P RunAt (styled also at args before list behind)
     styled_at args before list behind h k m =
         then_at P (StandAt P) RunAt (body_of args (also_keys also at list)) _ (body_of_at P 0 0 args (also_keys also at list) (also_at list k))
-            (λ style l. joined_at P (before ++ style) behind (joined_at P before style h l) m)
+        (λ style l. joined_at P (before ++ style) behind (joined_at P before style h l) m)
 
     appended_at : (old : Option Run) (list : List Tok) → IfSome old RunAt → StandAt P list → Stands P RunAt (restyled also at AppendStyle old list)
     appended_at None list h k = coded_at 1 (also_keys also at list) (also_at list k)
@@ -148,7 +148,7 @@ module _ (P : ℕ → Type 0) where
     remade_at handler old None h k = p
     remade_at handler old (Some v) h k =
         then_at P RunAt EntryAt (run_by also at handler old.run v) _ (run_by_at handler old.run v h.run k)
-            (λ run l. record { run = l; value = h.value; need = h.need })
+        (λ run l. record { run = l; value = h.value; need = h.need })
 
     defaulted_at : (old : Entry) (value : Option (List Tok)) → EntryAt old → IfSome value (StandAt P)
         → Stands P EntryAt (or_fault value HandlerValue at >>= λ v. Ok (record old { need = needs.Default v }))

@@ -25,8 +25,14 @@ use Rattle.tk_keys.proofs.Ran.{Any, any_part, any_env, any_evaluates, run_is}
 use Rattle.tk_keys.proofs.Standing.{ok_at}
 
 pub keeps_then : (a b c : State) → Keeps a b → Keeps b c → Keeps a c
-keeps_then a b c f g = record { names = g.names ∙ f.names; font = g.font ∙ f.font; budget = g.budget ∙ f.budget; outer = g.outer ∙ f.outer;
-    saved = g.saved ∙ f.saved; lists = g.lists ∙ f.lists }
+keeps_then a b c f g = record {
+  names = g.names ∙ f.names;
+  font = g.font ∙ f.font;
+  budget = g.budget ∙ f.budget;
+  outer = g.outer ∙ f.outer;
+  saved = g.saved ∙ f.saved;
+  lists = g.lists ∙ f.lists;
+}
 
 pub pays_keeps : (a b : State) → Pays a b → Keeps a b
 pays_keeps a b p = record {
@@ -69,7 +75,7 @@ module _ (old now : State) (kept : Keeps old now) (dir : List ℕ) (list : Unrea
     text_ends h =
         starts
         ∙ then_is ahead (λ n. settings_from (given_at now) (runs (given_at now)) n.token (standing_behind (standing_of now dir list) n.stream))
-            (taken None (stream_of paid behind)) h
+        (taken None (stream_of paid behind)) h
         ∙ ap ended (sym pays)
 
     module _ (t : Tok) (h : ahead ≡ Ok (taken (Some t) (stream_of paid behind))) where
@@ -81,12 +87,12 @@ module _ (old now : State) (kept : Keeps old now) (dir : List ℕ) (list : Unrea
       first_set =
           starts
           ∙ then_is ahead (λ n. settings_from (given_at now) (runs (given_at now)) n.token (standing_behind (standing_of now dir list) n.stream))
-              (taken (Some t) (stream_of paid behind)) h
+          (taken (Some t) (stream_of paid behind)) h
           ∙ ap (λ (s : State). set_from s >>= λ st. runs (given_at now) (Some_settings st)) (sym pays)
 
       pub text_goes_on : (new : State) (last : List ℕ) (rest : Unread)
           → set_or_group (given_at paid) (runs (given_at paid)) (setting_of paid.names t.kind) t (standing_of paid dir behind)
-              ≡ Ok (standing_of new last rest)
+          ≡ Ok (standing_of new last rest)
           → run_here ≡ runs (given_at old) (Some_settings (standing_of new last rest))
       text_goes_on new last rest is =
           first_set
@@ -134,11 +140,11 @@ pub text_paid : (old new : State) (p : KeyPart) (dir last : List ℕ) (deed : co
     → (old.units + length text < new.units) × (new.units ≤ old.budget)
 text_paid old new p dir last deed text is some =
     let k : EffectAt Any (given_at old) (situation_of old) (effect_of deed new last) = known_of (EffectAt Any (given_at old) (situation_of old))
-            (part (given_at old) p dir (situation_of old)) (effect_of deed new last) is (ok_at Any (EffectAt Any (given_at old) (situation_of old))
-            (part (given_at old) p dir (situation_of old)) (part_at Any (given_at old) (any_evaluates (given_at old)) p dir (situation_of old)
-            (any_part p) (any_env (env_of old)))) in
+    (part (given_at old) p dir (situation_of old)) (effect_of deed new last) is (ok_at Any (EffectAt Any (given_at old) (situation_of old))
+    (part (given_at old) p dir (situation_of old)) (part_at Any (given_at old) (any_evaluates (given_at old)) p dir (situation_of old)
+    (any_part p) (any_env (env_of old)))) in
     let t : TextAt Any old.budget old.units new.units (Some text) = subst (λ (o : Option (List Tok)). TextAt Any old.budget old.units new.units o)
-            some k.text in
+    some k.text in
     t.1
 
 -- ---- for each evaluation

@@ -92,7 +92,7 @@ module _ (P : ℕ → Type 0) where
       let k = piece_at (t ∷ ts) h (before_char comma (t ∷ ts)) (before_char_keeps (λ (t : Tok). P t.at) comma (t ∷ ts) h) in
       let less = shorter t ts (before_char comma (t ∷ ts)) (before_char_shorter comma (t ∷ ts)) in
       subst AllParts (sym (parts_is (t ∷ ts))) (joined (part_of (after_spaces piece.front)) (parts_of piece.rest)
-          (part_of_at (after_spaces piece.front) (spaces_at piece.front k.0)) (by_length n piece.rest (omega arith) k.1))
+      (part_of_at (after_spaces piece.front) (spaces_at piece.front k.0)) (by_length n piece.rest (omega arith) k.1))
 
   pub parts_at : (ts : List Tok) → StandAt P ts → AllParts (parts_of ts)
   parts_at ts h = by_length (suc (length ts)) ts (omega arith) h

@@ -97,7 +97,7 @@ pub runs_at : (P : ℕ → Type 0) (given : Given) (evaluates : EvaluatesAt P gi
 unfolding runs
 runs_at P given evaluates p =
     kept (work_of given) (fault Budget 0) (run_step given) (λ job r. RunnableAt P given evaluates job → Stands P (EndingAt P given evaluates job) r)
-        (λ job h. p) (λ f h job. step_at P given evaluates f h job)
+    (λ job h. p) (λ f h job. step_at P given evaluates f h job)
 
 -- at any place
 pub runs_stay : (given : Given) (job : Runnable) → RunnableAt Any given (any_evaluates given) job
@@ -113,10 +113,10 @@ module _ (given : Given) (f : Runnable → Answer Ending) (n : ℕ) (same : (job
   set_keys_alike : (origin : Origin) (at : ℕ) (st : Standing) → Left st < n → set_keys given f origin at st ≡ set_keys given (runs given) origin at st
   set_keys_alike origin at st lt =
       then_alike (ArgumentAt Any st.list) (argument at st.list) _ _ (ok_at Any (ArgumentAt Any st.list) (argument at st.list)
-          (argument_stands Any at st.list tt (any_list st.list.rest))) (λ list k.
+      (argument_stands Any at st.list tt (any_list st.list.rest))) (λ list k.
       let short = k.short in
       ap (λ (m : Answer Ending). m >>= λ after. Ok (standing after.now (dir_behind origin st.dir after.dir) list.list))
-          (same (A_key_list st.now (begins_at origin st.dir) list.value at) (omega arith)))
+      (same (A_key_list st.now (begins_at origin st.dir) list.value at) (omega arith)))
 
   set_alike : (setting : Setting) (at : ℕ) (st : Standing) → Left st < n → set given f setting at st ≡ set given (runs given) setting at st
   set_alike Nothing at st lt = refl
@@ -130,11 +130,11 @@ module _ (given : Given) (f : Runnable → Answer Ending) (n : ℕ) (same : (job
   group_alike : (at : ℕ) (st : Standing) → Left st < n → group given f at st ≡ group given (runs given) at st
   group_alike at st lt =
       then_alike (λ (c : Cut). length c.front + length c.rest < length st.list.rest) (or_fault (group_of st.list.rest) NotASetting at) _ _
-          (or_fault_holds (λ (c : Cut). length c.front + length c.rest < length st.list.rest) (group_of st.list.rest) NotASetting at
-          (group_shorter st.list.rest)) (λ c short.
+      (or_fault_holds (λ (c : Cut). length c.front + length c.rest < length st.list.rest) (group_of st.list.rest) NotASetting at
+      (group_shorter st.list.rest)) (λ c short.
       then_alike (λ _. Unit {0}) (level at st.now.env) _ _ (any_value (level at st.now.env)) (λ inside _.
       ap (λ (m : Answer Ending). m >>= λ after. Ok (standing (with_paid st.now after.now.units) st.dir (unread c.rest st.list.end)))
-          (same (Some_settings (standing (record st.now { env = inside }) st.dir (unread c.front (end_of at c.front)))) (omega arith))))
+      (same (Some_settings (standing (record st.now { env = inside }) st.dir (unread c.front (end_of at c.front)))) (omega arith))))
 
   set_or_group_alike : (setting : Option Setting) (t : Tok) (st : Standing) → Left st < n
       → set_or_group given f setting t st ≡ set_or_group given (runs given) setting t st
@@ -148,8 +148,8 @@ module _ (given : Given) (f : Runnable → Answer Ending) (n : ℕ) (same : (job
       let setting = setting_of given.names t.kind in
       ap (λ (m : Answer Standing). m >>= λ behind. f (Some_settings behind)) (set_or_group_alike setting t st (omega arith))
       ∙ then_alike (StandingAt Any st) (set_or_group given (runs given) setting t st) _ _ (ok_at Any (StandingAt Any st)
-          (set_or_group given (runs given) setting t st) (set_or_group_at Any given (any_evaluates given) (runs given) (runs_stay given) setting t st
-          tt (any_env st.now.env) (any_read st.list))) (λ behind k.
+      (set_or_group given (runs given) setting t st) (set_or_group_at Any given (any_evaluates given) (runs given) (runs_stay given) setting t st
+      tt (any_env st.now.env) (any_read st.list))) (λ behind k.
       let short = k.list.short in
       let spent = k.now.units in
       same (Some_settings behind) (omega arith))
@@ -157,7 +157,7 @@ module _ (given : Given) (f : Runnable → Answer Ending) (n : ℕ) (same : (job
   all_settings_alike : (st : Standing) → Left st ≤ n → all_settings given f st ≡ all_settings given (runs given) st
   all_settings_alike st le =
       then_alike (Takes given.budget (stream_here st)) (next given.budget st.now.env.macros (stream_here st)) _ _
-          (next_takes given.budget st.now.env.macros (stream_here st)) (λ ahead k.
+      (next_takes given.budget st.now.env.macros (stream_here st)) (λ ahead k.
       let fell = k.work_falls in
       settings_from_alike ahead.token (standing_behind st ahead.stream) (omega arith))
 
@@ -173,7 +173,7 @@ module _ (given : Given) (f : Runnable → Answer Ending) (n : ℕ) (same : (job
       → part_run given f p dir s ≡ part_run given (runs given) p dir s
   part_run_alike p dir s le =
       then_alike (EffectAt Any given s) (part given p dir s) _ _ (ok_at Any (EffectAt Any given s) (part given p dir s)
-          (part_at Any given (any_evaluates given) p dir s (any_part p) (any_env s.env))) (λ effect k.
+      (part_at Any given (any_evaluates given) p dir s (any_part p) (any_env s.env))) (λ effect k.
       text_run_alike p.at effect.deed.text effect.dir effect.deed.now s.units le k.text)
 
   parts_alike : (ps : List KeyPart) (dir : List ℕ) (s : Situation) → given.budget - s.units ≤ n
@@ -183,8 +183,8 @@ module _ (given : Given) (f : Runnable → Answer Ending) (n : ℕ) (same : (job
   parts_alike (p ∷ ps) dir s le =
       ap (λ (m : Answer Ending). m >>= λ after. parts given f ps after.dir after.now) (part_run_alike p dir s le)
       ∙ then_alike (λ (e : Ending). Later Any s e.now) (part_run given (runs given) p dir s) _ _ (ok_at Any (λ (e : Ending). Later Any s e.now)
-          (part_run given (runs given) p dir s) (part_run_at Any given (any_evaluates given) (runs given) (runs_stay given) p dir s (any_part p)
-          (any_env s.env))) (λ after m.
+      (part_run given (runs given) p dir s) (part_run_at Any given (any_evaluates given) (runs given) (runs_stay given) p dir s (any_part p)
+      (any_env s.env))) (λ after m.
       let more = m.units in
       parts_alike ps after.dir after.now (omega arith))
 
@@ -224,6 +224,6 @@ one_setting_at P given evaluates first t s list p env h = by (setting_of given.n
     by None = tt
     by (Some setting) =
         then_at P (StandingAt P (standing s [] list)) (λ made. IfSome made (SetAt P s list)) (set given (runs given) setting t.at
-            (standing s [] list)) _ (set_at P given evaluates (runs given) (runs_at P given evaluates first) setting t.at (standing s [] list) p
-            env h) (λ st k.
+        (standing s [] list)) _ (set_at P given evaluates (runs given) (runs_at P given evaluates first) setting t.at (standing s [] list) p
+        env h) (λ st k.
         record { now = k.now; list = k.list })

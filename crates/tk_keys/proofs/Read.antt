@@ -25,7 +25,7 @@ pub text_own : (budget : ℕ) (macros : Macros) (units at : ℕ) (list : List To
 text_own budget macros units at list text e same =
     let from : Stream = stream units (unread list at) in
     then_is (full budget macros from) (λ (r : Stream). (let answer : Answer (Option (List ℕ) × ℕ) = Ok (text_in r.list.rest, r.units) in answer)) from
-        (full_own budget macros from (sym e))
+    (full_own budget macros from (sym e))
     ∙ ap (λ (o : Option (List ℕ)). (let answer : Answer (Option (List ℕ) × ℕ) = Ok (o, units) in answer)) (sym same)
 
 evaluated_is : (font : FontUnits) (at : ℕ) (toks : List Tok) (answer : Answer Value) → Evaluates font at toks answer → evaluated font at toks ≡ answer

@@ -39,8 +39,15 @@ module _ (P : ℕ → Type 0) where
   token_in_within : (n : ℕ) (code : Code) (end : ℕ) (ts : List Tok) → Within n end (unread ts end)
       → Stands P (TokenWithin n end) (token_in code end ts)
   token_in_within n code end [] h = h.last
-  token_in_within n code end (t ∷ ts) h = record { token = h.rest.0; list = record { short = (let a = h.short in omega arith); rest = h.rest.1;
-      same = h.same; last = h.last } }
+  token_in_within n code end (t ∷ ts) h = record {
+    token = h.rest.0;
+    list = record {
+      short = (let a = h.short in omega arith);
+      rest = h.rest.1;
+      same = h.same;
+      last = h.last;
+    };
+  }
 
   next_same : (n end : ℕ) (code : Code) (list : Unread) → list.end ≡ end → Within n end list
       → Stands P (TokenWithin n end) (token_in code list.end list.rest)
@@ -56,7 +63,7 @@ module _ (P : ℕ → Type 0) where
   unfolding after_token
   after_token_within n end code wanted list h =
       then_at P (TokenWithin n end) (Within n end) (next_token code list) _ (token_within n end code list h) (λ r k. if_at P (Within n end)
-          (wanted r.value.kind) (Ok r.list) (fault code r.value.at) k.list k.token)
+      (wanted r.value.kind) (Ok r.list) (fault code r.value.at) k.list k.token)
 
   after_text_within : (n end : ℕ) (code : Code) (text : List ℕ) (list : Unread) → Within n end list
       → Stands P (Within n end) (after_text code text list)
@@ -71,9 +78,9 @@ module _ (P : ℕ → Type 0) where
   unfolding after_name
   after_name_within n end code name list h =
       then_at P (Within n end) (Within n end) (after_token code is_open (past_spaces list)) _ (after_token_within n end code is_open
-          (past_spaces list) (spaces_within n end list h)) (λ inside k.
+      (past_spaces list) (spaces_within n end list h)) (λ inside k.
       then_at P (Within n end) (Within n end) (after_text code name inside) _ (after_text_within n end code name inside k)
-          (λ behind m. after_token_within n end code is_close behind m))
+      (λ behind m. after_token_within n end code is_close behind m))
 
   pub value_within : {A : Type 0} (n end : ℕ) (code : Code) (meaning : Kind → Option A) (list : Unread) → Within n end list
       → Stands P (λ (r : Read A). Within n end r.list) (token_value code meaning list)
@@ -81,4 +88,4 @@ module _ (P : ℕ → Type 0) where
   value_within {A = A} n end code meaning list h =
       then_at P (TokenWithin n end) (λ (r : Read A). Within n end r.list) (next_token code list) _ (token_within n end code list h) (λ next k.
       then_at P (λ _. Unit {0}) (λ (r : Read A). Within n end r.list) (or_fault (meaning next.value.kind) code next.value.at) _
-          (some_at P (meaning next.value.kind) code next.value.at k.token) (λ value _. k.list))
+      (some_at P (meaning next.value.kind) code next.value.at k.token) (λ value _. k.list))

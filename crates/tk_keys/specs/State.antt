@@ -25,8 +25,13 @@ pub record State : Type 0 where
 -- what words and keys mean at the last level, and how many levels and key lists there are
 abbrev pub env_of : State → Env
 env_of s =
-    record { macros = s.levels.top.macros; keys = s.levels.top.keys; graphics = s.graphics;
-        levels = length s.levels.outer; lists = s.lists }
+    record {
+      macros = s.levels.top.macros;
+      keys = s.levels.top.keys;
+      graphics = s.graphics;
+      levels = length s.levels.outer;
+      lists = s.lists;
+    }
 
 -- what is given, with a way to evaluate
 abbrev pub given_of : Evaluation → State → Given

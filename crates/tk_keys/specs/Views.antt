@@ -50,8 +50,16 @@ given_by font budget = record { names = []; evaluate = evaluated; font = font; b
 
 abbrev pub situation_by : FontUnits → Macros → ℕ → Situation
 situation_by font macros units =
-    record { env = record { macros = macros; keys = map.empty; graphics = initial_graphics font; levels = 0;
-        lists = 0 }; units = units }
+    record {
+      env = record {
+        macros = macros;
+        keys = map.empty;
+        graphics = initial_graphics font;
+        levels = 0;
+        lists = 0;
+      };
+      units = units;
+    }
 
 -- a value, and the units behind it
 abbrev pub value_behind : ℤ → ℕ → ExpressionValue

@@ -160,7 +160,7 @@ impl State {
     ) -> Result<Deed, Refusal>
         ensures gives { Gives (λ deed. deed_of deed self.new) result
             (keys.set_native (given_of evaluated self.old) at name.now key (option_copied value.entry)
-              (situation_of self.old)) }
+            (situation_of self.old)) }
         ensures kept { OnOk result (Keeps self.old self.new) }
         ensures used { OnOk result (self.old.units ≤ self.new.units) }
     {
@@ -187,7 +187,7 @@ impl State {
     ) -> Result<Deed, Refusal>
         ensures gives { Gives (λ deed. deed_of deed self.new) result
             (keys.plain_run (given_of evaluated self.old) at name.now run.now (option_copied value.entry)
-              (situation_of self.old)) }
+            (situation_of self.old)) }
         ensures kept { OnOk result (Keeps self.old self.new) }
         ensures used { OnOk result (self.old.units ≤ self.new.units) }
     {
@@ -232,7 +232,7 @@ impl State {
     ) -> Result<Deed, Refusal>
         ensures gives { Gives (λ deed. deed_of deed self.new) result
             (keys.run_key (given_of evaluated self.old) at path.now name.now run.now (option_copied value.entry)
-              (situation_of self.old)) }
+            (situation_of self.old)) }
         ensures kept { OnOk result (Keeps self.old self.new) }
         ensures used { OnOk result (self.old.units ≤ self.new.units) }
     {
@@ -255,7 +255,7 @@ impl State {
     ) -> Result<Option<Deed>, Refusal>
         ensures gives { Gives (λ used. used_of used self.new) result
             (keys.use_by (given_of evaluated self.old) at path.now entry None entry.value (option_copied value.entry)
-              (situation_of self.old)) }
+            (situation_of self.old)) }
         ensures none { IfOk result (λ used. IfNone used (self.new ≡ self.old)) }
         ensures kept { OnOk result (Keeps self.old self.new) }
         ensures used { OnOk result (self.old.units ≤ self.new.units) }
@@ -281,7 +281,7 @@ impl State {
     ) -> Result<Option<Deed>, Refusal>
         ensures gives { Gives (λ used. used_of used self.new) result
             (keys.use_key (given_of evaluated self.old) at path.now (option_copied value.entry)
-              (situation_of self.old)) }
+            (situation_of self.old)) }
         ensures none { IfOk result (λ used. IfNone used (self.new ≡ self.old)) }
         ensures kept { OnOk result (Keeps self.old self.new) }
         ensures used { OnOk result (self.old.units ≤ self.new.units) }

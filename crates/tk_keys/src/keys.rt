@@ -36,7 +36,7 @@ impl State {
     ) -> Result<Deed, Refusal>
         ensures gives { Gives (λ deed. deed_of deed self.new) result
             (keys.edit (given_of evaluated self.old) at handler path.now (option_copied value.entry)
-              (situation_of self.old)) }
+            (situation_of self.old)) }
         ensures kept { OnOk result (Keeps self.old self.new) }
         ensures used { OnOk result (self.old.units ≤ self.new.units) }
     {
@@ -51,9 +51,9 @@ impl State {
     fn pay_for_edit(&mut self, at: u32, handler: Handler, entry: &Entry) -> Result<(), Fault>
         ensures gives { MatchResult result
             (λ _. keys.edit_paid (given_of evaluated self.old) at handler entry.now.run self.old.units
-              ≡ Ok self.new.units)
+            ≡ Ok self.new.units)
             (λ fault. keys.edit_paid (given_of evaluated self.old) at handler entry.now.run self.old.units
-              ≡ Err fault) }
+            ≡ Err fault) }
         ensures pays { self.new ≡ record self.old { units = self.new.units } }
         ensures used { self.old.units ≤ self.new.units }
     {
@@ -76,7 +76,7 @@ impl State {
     ) -> Result<Deed, Refusal>
         ensures gives { Gives (λ deed. effect_of deed self.new dir.new) result
             (keys.handle (given_of evaluated self.old) at handler path.now (option_copied value.entry) dir.old
-              (situation_of self.old)) }
+            (situation_of self.old)) }
         ensures kept { OnOk result (Keeps self.old self.new) }
         ensures used { OnOk result (self.old.units ≤ self.new.units) }
     {
@@ -130,7 +130,7 @@ impl State {
     fn unknown(&mut self, at: u32, path: &str, value: Option<&[Tok]>) -> Result<Deed, Refusal>
         ensures gives { Gives (λ deed. deed_of deed self.new) result
             (keys.unknown (given_of evaluated self.old) at path.now (option_copied value.entry)
-              (situation_of self.old)) }
+            (situation_of self.old)) }
         ensures kept { OnOk result (Keeps self.old self.new) }
         ensures used { OnOk result (self.old.units ≤ self.new.units) }
     {
@@ -151,7 +151,7 @@ impl State {
     ) -> Result<Deed, Refusal>
         ensures gives { Gives (λ deed. effect_of deed self.new dir.new) result
             (keys.handle_or_unknown (given_of evaluated self.old) at (handlers.handler_of (paths.name_in path.now))
-              path.now (option_copied value.entry) dir.old (situation_of self.old)) }
+            path.now (option_copied value.entry) dir.old (situation_of self.old)) }
         ensures kept { OnOk result (Keeps self.old self.new) }
         ensures used { OnOk result (self.old.units ≤ self.new.units) }
     {
@@ -171,7 +171,7 @@ impl State {
     ) -> Result<Deed, Refusal>
         ensures gives { Gives (λ deed. effect_of deed self.new dir.new) result
             (keys.key (given_of evaluated self.old) at path.now (option_copied value.entry) dir.old
-              (situation_of self.old)) }
+            (situation_of self.old)) }
         ensures kept { OnOk result (Keeps self.old self.new) }
         ensures used { OnOk result (self.old.units ≤ self.new.units) }
     {

@@ -94,7 +94,7 @@ impl State {
     fn run_parts(&mut self, dir: &mut Dir, list: &[Tok]) -> Result<(), Refusal>
         ensures gives { Gives (λ _. ending_of self.new dir.new) result
             (settings.parts (given_of evaluated self.old) (runs (given_of evaluated self.old)) (parts_of list.now)
-              dir.old (situation_of self.old)) }
+            dir.old (situation_of self.old)) }
         ensures kept { OnOk result (Keeps self.old self.new) }
         ensures used { OnOk result (self.old.units ≤ self.new.units) }
     {
@@ -110,7 +110,7 @@ impl State {
     fn run_part(&mut self, part: &Part, dir: &mut Dir) -> Result<(), Refusal>
         ensures gives { Gives (λ _. ending_of self.new dir.new) result
             (settings.part_run (given_of evaluated self.old) (runs (given_of evaluated self.old)) (key_part part.now)
-              dir.old (situation_of self.old)) }
+            dir.old (situation_of self.old)) }
         ensures kept { OnOk result (Keeps self.old self.new) }
         ensures used { OnOk result (self.old.units ≤ self.new.units) }
     {
@@ -144,7 +144,7 @@ impl State {
     fn set_or_group(&mut self, first: Tok, dir: &mut Dir, input: &mut Input) -> Result<(), Refusal>
         ensures gives { Gives (λ _. standing_of self.new dir.new input.new) result
             (settings.set_or_group (given_of evaluated self.old) (runs (given_of evaluated self.old))
-              (setting_of self.old.names first.kind) first (standing_of self.old dir.old input.old)) }
+            (setting_of self.old.names first.kind) first (standing_of self.old dir.old input.old)) }
         ensures kept { OnOk result (Keeps self.old self.new) }
         ensures used { OnOk result (self.old.units ≤ self.new.units) }
         ensures end { OnOk result (input.new.end ≡ input.old.end) }
@@ -169,7 +169,7 @@ impl State {
     ) -> Result<(), Refusal>
         ensures gives { Gives (λ _. standing_of self.new dir.new input.new) result
             (settings.set (given_of evaluated self.old) (runs (given_of evaluated self.old)) setting at
-              (standing_of self.old dir.old input.old)) }
+            (standing_of self.old dir.old input.old)) }
         ensures kept { OnOk result (Keeps self.old self.new) }
         ensures used { OnOk result (self.old.units ≤ self.new.units) }
         ensures end { OnOk result (input.new.end ≡ input.old.end) }
@@ -198,7 +198,7 @@ impl State {
     ) -> Result<(), Refusal>
         ensures gives { Gives (λ _. standing_of self.new dir.new input.new) result
             (settings.set_keys (given_of evaluated self.old) (runs (given_of evaluated self.old)) origin at
-              (standing_of self.old dir.old input.old)) }
+            (standing_of self.old dir.old input.old)) }
         ensures kept { OnOk result (Keeps self.old self.new) }
         ensures used { OnOk result (self.old.units ≤ self.new.units) }
         ensures end { OnOk result (input.new.end ≡ input.old.end) }
@@ -220,7 +220,7 @@ impl State {
     fn group(&mut self, at: u32, dir: &mut Dir, input: &mut Input) -> Result<(), Refusal>
         ensures gives { Gives (λ _. standing_of self.new dir.new input.new) result
             (settings.group (given_of evaluated self.old) (runs (given_of evaluated self.old)) at
-              (standing_of self.old dir.old input.old)) }
+            (standing_of self.old dir.old input.old)) }
         ensures kept { OnOk result (Keeps self.old self.new) }
         ensures used { OnOk result (self.old.units ≤ self.new.units) }
         ensures end { OnOk result (input.new.end ≡ input.old.end) }

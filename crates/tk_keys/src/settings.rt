@@ -197,7 +197,7 @@ fn value_of_text(
 ) -> Result<Scaled, Refusal>
     ensures gives { Gives (λ number. value_behind number units.new.used) result
         (settings.expression_value (given_by font units.old.budget) at text.items
-          (situation_by font store.now.top.macros units.old.used)) }
+        (situation_by font store.now.top.macros units.old.used)) }
     ensures budget { units.new.budget ≡ units.old.budget }
     ensures used { OnOk result (units.old.used ≤ units.new.used) }
 {

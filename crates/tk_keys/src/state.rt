@@ -85,7 +85,7 @@ impl Model for State {
     } };
 
     ghost invariant = { λ s. AreMade s.names s.made × (length s.saved.items ≡ length s.store.outer)
-      × (128 ≤ vec_capacity s.saved) };
+        × (128 ≤ vec_capacity s.saved) };
 }
 
 impl State {
@@ -239,8 +239,11 @@ impl State {
         requires { 0 < length self.old.levels.outer }
         ensures levels { self.old.levels.outer ≡ self.new.levels.top ∷ self.new.levels.outer }
         ensures saved { self.old.saved ≡ self.new.graphics ∷ self.new.saved }
-        ensures kept { self.new ≡ record self.old { levels = self.new.levels; graphics = self.new.graphics;
-            saved = self.new.saved } }
+        ensures kept { self.new ≡ record self.old {
+          levels = self.new.levels;
+          graphics = self.new.graphics;
+          saved = self.new.saved;
+        } }
         ensures low { steps.old ≤ steps.new }
         ensures high { steps.new ≤ steps.old + self.old.levels.top.settings }
     {
@@ -255,8 +258,11 @@ impl State {
         requires { 0 < length self.old.levels.outer }
         ensures levels { self.old.levels.outer ≡ self.new.levels.top ∷ self.new.levels.outer }
         ensures saved { self.old.saved ≡ self.new.graphics ∷ self.new.saved }
-        ensures kept { self.new ≡ record self.old { levels = self.new.levels; graphics = self.new.graphics;
-            saved = self.new.saved } }
+        ensures kept { self.new ≡ record self.old {
+          levels = self.new.levels;
+          graphics = self.new.graphics;
+          saved = self.new.saved;
+        } }
     {
         self.store.close_uncounted();
         if let Some(graphics) = self.saved.pop() {
@@ -267,8 +273,12 @@ impl State {
     /// Sets whether what follows is drawn and filled. This takes no memory.
     pub fn set_paint(&mut self, draw: bool, fill: bool)
         ensures { self.new ≡ record self.old {
-          graphics = record self.old.graphics { look = record self.old.graphics.look { draw_on = draw;
-            fill_on = fill } };
+          graphics = record self.old.graphics {
+            look = record self.old.graphics.look {
+              draw_on = draw;
+              fill_on = fill;
+            };
+          };
         } }
     {
         self.graphics.look.draw_on = draw;

@@ -16,7 +16,7 @@ use Rattle.tk_keytext.specs.Parts.{KeyPart, part_of, first_piece, parts_step, pa
 pub found_shorter : (c : ℕ) (ts front rest : List Tok) → before_char c ts ≡ Some (cut front rest) → length rest < length ts
 found_shorter c ts front rest found =
     let h : length front + length rest < length ts = subst (λ (o : Option Cut). IfSome o (λ c. length c.front + length c.rest < length ts)) found
-            (before_char_shorter c ts) in omega arith
+    (before_char_shorter c ts) in omega arith
 
 -- ---- the first piece
 

@@ -20,7 +20,7 @@ module _ (path : List ℕ) where
   unfolding last_part
   part_from start within since before =
       let n = suffix_len_is (λ c. not (c == 47)) path start 0 within (λ k a b. no_slash (get_or path k 0) (since k a b))
-              (λ p. a_slash (get_or path (start - 1) 0) (before p)) in
+      (λ p. a_slash (get_or path (start - 1) 0) (before p)) in
       rw n (omega arith)
 
   -- without a `/` a path is its last part
@@ -39,7 +39,7 @@ module _ (path : List ℕ) where
     none_since k a b e =
         let back : j + (k - j) ≡ k = omega (arith, behind) in
         NoCharPasses-char 47 (drop j path) (k - j) found.0 (omega arith) (omega (arith, length-drop j path, behind)) (get_or-drop j path (k - j) 0
-            ∙ ap (λ n. get_or path n 0) back ∙ e)
+        ∙ ap (λ n. get_or path n 0) back ∙ e)
 
     pub part_behind : last_part path ≡ i + 1
     part_behind =

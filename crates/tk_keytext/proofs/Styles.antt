@@ -55,9 +55,9 @@ module _ (args at : ℕ) where
   close_kept (t ∷ []) = one_ended t.kind t
   close_kept (t ∷ u ∷ ts) =
       ap (λ (b : Answer (List Tok)). if is_param t.kind then onto (hash_before args u.kind t.at) b else onto (itself t.kind t)
-          (body_of args (u ∷ ts ++ closer ∷ []))) (close_kept ts)
+      (body_of args (u ∷ ts ++ closer ∷ []))) (close_kept ts)
       ∙ ap (λ (b : Answer (List Tok)). if is_param t.kind then onto (hash_before args u.kind t.at) (ended closer (body_of args ts))
-          else onto (itself t.kind t) b) (close_kept (u ∷ ts))
+      else onto (itself t.kind t) b) (close_kept (u ∷ ts))
       ∙ chosen_ended (is_param t.kind) (hash_before args u.kind t.at) (itself t.kind t) closer (body_of args ts) (body_of args (u ∷ ts))
 
   word_kept : (w : ℕ) (ts : List Tok)
@@ -76,12 +76,12 @@ module _ (args at : ℕ) where
     pub style_kept : (list : List Tok) → body_of args (also_keys also at list) ≡ (body_of args list >>= λ ts. Ok (also_keys also at ts))
     style_kept list =
         word_kept also _ ∙ ap (onto (Ok (record { kind = Word also; at = at }))) (open_kept _ ∙ ap (onto (Ok (record { kind = Open; at = at })))
-            (close_kept list))
+        (close_kept list))
         ∙ go (body_of args list)
       where
         go : (body : Answer (List Tok))
             → onto (Ok (record { kind = Word also; at = at })) (onto (Ok (record { kind = Open; at = at })) (ended closer body))
-                ≡ (body >>= λ ts. Ok (also_keys also at ts))
+            ≡ (body >>= λ ts. Ok (also_keys also at ts))
         go (Ok ts) = refl
         go (Err e) = refl
 

@@ -130,7 +130,7 @@ module _ (P : ℕ → Type 0) where
       let rest = drop (length word) ts in
       let inside = dropped (length word) ts h in
       some_if CutWithin (begins_text word ts) (up_to_word rest) (cut_or_all (first_outside begins_dash rest) rest
-          (first_outside_keeps (λ (t : Tok). P t.at) begins_dash rest inside) inside)
+      (first_outside_keeps (λ (t : Tok). P t.at) begins_dash rest inside) inside)
 
   then_some : {A B : Type 0} (Q : A → Type 0) (R : B → Type 0) (o : Option A) (f : A → Option B) → IfSome o Q → ((x : A) → Q x → IfSome (f x) R)
       → IfSome (o and_then f) R
@@ -149,7 +149,7 @@ module _ (P : ℕ → Type 0) where
   dashes_within zero ts h = tt
   dashes_within (suc n) ts h =
       then_some DashWithin (AllByRecursion DashWithin) (dash_of ts) _ (dash_within ts h) (λ d k. by d k (dashes_within n d.rest k.rest)
-          (length d.rest == 0))
+      (length d.rest == 0))
     where
       by : (d : Dash) → DashWithin d → IfSome (all_dashes n d.rest) (AllByRecursion DashWithin) → (b : Bool)
           → IfSome (if b then Some (d ∷ []) else (all_dashes n d.rest and_then λ ds. Some (d ∷ ds))) (AllByRecursion DashWithin)
@@ -182,7 +182,7 @@ module _ (P : ℕ → Type 0) where
     paint_by_fine key None look = here
     paint_by_fine key (Some text) look =
         fine_if (bytes_eq text (codes "none")) _ _ tt (fine_then (or_fault (colour_of text) codes_of.Colour at) _
-            (or_fine (colour_of text) codes_of.Colour) (λ c. tt))
+        (or_fine (colour_of text) codes_of.Colour) (λ c. tt))
 
     paint_fine : (key : PaintKey) (value : Option (List Tok)) (look : Look) → Fine (paint at key value look)
     paint_fine key None look = tt
@@ -258,7 +258,7 @@ module _ (P : ℕ → Type 0) where
       pattern_fine : (value : Option (List Tok)) → IfSome value Within → Fine (pattern_value at ev font value)
       pattern_fine value h = there value _ h (λ list k.
           or_then (AllByRecursion DashWithin) (all_dashes 8 (after_spaces list)) codes_of.Domain _ (dashes_within 8 (after_spaces list)
-              (behind_spaces list k)) (λ ds m. lengths_fine ds m))
+          (behind_spaces list k)) (λ ds m. lengths_fine ds m))
 
       position_fine : (value : Option (List Tok)) → IfSome value Within → Fine (position_value at ev font value)
       position_fine value h =

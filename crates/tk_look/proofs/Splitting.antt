@@ -18,7 +18,7 @@ is_mark c = c == exclamation_mark
 pub one_piece : (text : List ℕ) → position_or_len is_mark text ≡ length text → pieces_between text ≡ text ∷ []
 one_piece text none =
     slice_split_none is_mark text (All-from_get_or (λ (c : ℕ). is_mark c ≡ false) text 0 (λ i l. fails_before_first is_mark text i 0
-        (omega (arith, none))))
+    (omega (arith, none))))
 
 -- another has what stands before it as its first piece
 pub more_pieces : (text front rest : List ℕ) → position_or_len is_mark text < length text → front ≡ before_first is_mark text

@@ -92,7 +92,7 @@ fn mix_first<'a>(so_far: Rgb, pieces: &'a str) -> Option<(Rgb, Option<&'a str>)>
     ensures mixes { MatchOption result
         (spec.mixed_with so_far (spec.pieces_between pieces.now) ≡ None)
         (λ next. spec.mixed_with so_far (spec.pieces_between pieces.now)
-          ≡ spec.mixed_with next.0 (pieces_behind (option_copied next.1))) }
+        ≡ spec.mixed_with next.0 (pieces_behind (option_copied next.1))) }
     ensures shorter { IfSome result (λ next. IfSome next.1 (λ rest. length rest.now < length pieces.now)) }
 {
     let (share, behind) = first_piece(pieces);

@@ -196,7 +196,7 @@ impl Look {
     ) -> Result<Step, Fault>
         ensures { MatchResult result
             (λ step. spec.beside at evaluated font side (option_copied value.entry) self.old
-              ≡ Ok (spec.stepping self.new (step ∷ [])))
+            ≡ Ok (spec.stepping self.new (step ∷ [])))
             (λ fault. spec.beside at evaluated font side (option_copied value.entry) self.old ≡ Err fault) }
     {
         let length = match value {
@@ -291,7 +291,7 @@ impl Look {
     ) -> Result<Steps, Fault>
         ensures { MatchResult result
             (λ steps. spec.transformed at evaluated font key (option_copied value.entry) self.old
-              ≡ Ok (spec.stepping self.new steps.items))
+            ≡ Ok (spec.stepping self.new steps.items))
             (λ fault. spec.transformed at evaluated font key (option_copied value.entry) self.old ≡ Err fault) }
     {
         match (key, value) {

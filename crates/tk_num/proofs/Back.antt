@@ -85,7 +85,7 @@ was_read text w f lt e = by_tests (is_decimal text) (leb (decimal_value text / 6
         → (is_decimal text ≡ true) × (decimal_value text ≡ 65536 * w + f)
     by_tests true true a b =
         let is : ◌≡◌ {A = Option (ℤ × ℤ)} (Some (pos (decimal_value text / 65536), pos (decimal_value text % 65536))) (Some (pos w, pos f))
-                = sym (rw (a, b) refl) ∙ e in
+        = sym (rw (a, b) refl) ∙ e in
         let whole : decimal_value text / 65536 ≡ w = ap read_whole is in
         let part : decimal_value text % 65536 ≡ f = ap read_part is in
         (a, omega (arith, whole, part))

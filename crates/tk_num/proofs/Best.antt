@@ -40,26 +40,26 @@ digits_that_read_back : (f : ℕ) → f < 65536 → (n d : ℕ) → ReadsAs f n 
 digits_that_read_back f lt n d r =
     by_count (λ k. nearest_65536th k d ≡ f → reads_back k f ≡ true)
     (λ e. eq-eqb _ _ (nearest_digit_reads_back f d e)) (λ e. eq-eqb _ _ (nearest_two_digits_read_back f d e))
-        (λ e. eq-eqb _ _ (nearest_three_digits_read_back f d e)) (λ e. eq-eqb _ _ (nearest_four_digits_read_back f d e))
-        (λ e. eq-eqb _ _ (nearest_five_digits_read_back f lt))
+    (λ e. eq-eqb _ _ (nearest_three_digits_read_back f d e)) (λ e. eq-eqb _ _ (nearest_four_digits_read_back f d e))
+    (λ e. eq-eqb _ _ (nearest_five_digits_read_back f lt))
     n r.some r.most r.reads
 
 -- the nearest are nearer than any others
 nearest_digits_are_nearest : (f n d : ℕ) → 1 ≤ n → n ≤ 5 → distance n (nearest_digits n f) f ≤ distance n d f
 nearest_digits_are_nearest f n d low high =
     by_count (λ k. distance k (nearest_digits k f) f ≤ distance k d f) (omega arith) (omega arith) (omega arith) (omega arith)
-        (omega arith) n low high
+    (omega arith) n low high
 
 nearest_digits_are_greatest : (f n d : ℕ) → 1 ≤ n → n ≤ 5 → distance n (nearest_digits n f) f ≡ distance n d f → d ≤ nearest_digits n f
 nearest_digits_are_greatest f n d low high =
     by_count (λ k. distance k (nearest_digits k f) f ≡ distance k d f → d ≤ nearest_digits k f) (λ e. omega arith) (λ e. omega arith)
-        (λ e. omega arith) (λ e. omega arith) (λ e. omega arith) n low high
+    (λ e. omega arith) (λ e. omega arith) (λ e. omega arith) n low high
 
 -- digits that read back are no carry
 nearest_digits_are_few : (f n : ℕ) → f < 65536 → 1 ≤ n → n ≤ 5 → nearest_65536th n (nearest_digits n f) ≡ f → nearest_digits n f < 10 ^ n
 nearest_digits_are_few f n lt low high =
     by_count (λ k. nearest_65536th k (nearest_digits k f) ≡ f → nearest_digits k f < 10 ^ k) (λ e. omega arith) (λ e. omega arith) (λ e. omega arith)
-        (λ e. omega arith) (λ e. omega arith) n low high
+    (λ e. omega arith) (λ e. omega arith) n low high
 
 best_at : (f n : ℕ) → f < 65536 → 1 ≤ n → n ≤ 5 → reads_back n f ≡ true → ((k d : ℕ) → ReadsAs f k d → n ≤ k) → IsBest f n (nearest_digits n f)
 best_at f n lt low high back least =

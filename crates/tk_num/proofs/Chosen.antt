@@ -41,10 +41,10 @@ text_splits n text r =
     let below : digits_value 10 (part_digits text) < 10 ^ places text = digits_value-lt 10 (part_digits text) all in
     let most : places text ≤ 5 = r.pointed.most in
     let part : fraction_of (part_digits text) ≡ nearest_65536th (places text) (digits_value 10 (part_digits text)) = fraction_is (part_digits text)
-            (omega arith) in
+    (omega arith) in
     let small = no_carry (places text) (digits_value 10 (part_digits text)) r.pointed.some most below in
     let value : 65536 * digits_value 10 (whole_digits text) + nearest_65536th (places text) (digits_value 10 (part_digits text))
-            ≡ n = ap (λ k. 65536 * digits_value 10 (whole_digits text) + k) (sym part) ∙ r.value in
+    ≡ n = ap (λ k. 65536 * digits_value 10 (whole_digits text) + k) (sym part) ∙ r.value in
     let whole : digits_value 10 (whole_digits text) ≡ n / 65536 = quotient_is _ _ _ value small in
     let rest : nearest_65536th (places text) (digits_value 10 (part_digits text)) ≡ n % 65536 = rest_is _ _ _ value small in
     record {
@@ -126,7 +126,7 @@ value-size n lt =
     ∙ ap (λ ds. 65536 * digits_value 10 (decimal w) + fraction_of ds) (part-size n lt)
     ∙ ap (λ v. 65536 * v + fraction_of (part_text f)) (value-decimal w (omega arith))
     ∙ ap (λ v. 65536 * w + v) (fraction-fixed (fewest_digits f) (nearest_digits (fewest_digits f) f) (omega (arith, best.most)) best.digits
-        ∙ best.reads)
+    ∙ best.reads)
     ∙ omega arith
 
 pub size_reads : (n : ℕ) → n < 2 ^ 64 → ReadsBack n (size_text n)
@@ -170,7 +170,7 @@ size_chosen n lt =
           (let o = at_places n k other r (same ∙ here) in
           let tie : distance k m f ≡ distance k (digits_value 10 (part_digits other)) f = sym far ∙ eq ∙ o.far in
           greater (n / 65536 * 10 ^ k) m (digits_value 10 (part_digits other)) (number_without_point t) (number_without_point other) (mine.number
-              ∙ ap (λ d. n / 65536 * 10 ^ k + d) (part_value n lt)) o.number (best.greatest (digits_value 10 (part_digits other)) o.reads tie));
+          ∙ ap (λ d. n / 65536 * 10 ^ k + d) (part_value n lt)) o.number (best.greatest (digits_value 10 (part_digits other)) o.reads tie));
     }
 
 -- ---- the texts with their sign
@@ -206,7 +206,7 @@ without-none n lt e =
 without-some : (n : ℕ) → n < 2 ^ 64 → n % 65536 ≢ 0 → without_zero (size_text n) ≡ size_text n
 without-some n lt ne =
     let lone : is_lone_zero (part_digits (size_text n)) ≡ false = ap is_lone_zero (part-size n lt) ∙ some_digits (n % 65536) _ _ ne (best_of n).reads
-            in
+    in
     rw lone refl
 
 pub text-is : (z : ℤ) → unsigned_abs z < 2 ^ 64 → text_of z ≡ sign_text z ++ without_zero (size_text (unsigned_abs z))
@@ -219,7 +219,7 @@ text-is z lt = by_test (eqb (unsigned_abs z % 65536) 0) refl
     by_test false t =
         let some : unsigned_abs z % 65536 ≢ 0 = λ e. absurd (let yes = eq-eqb _ _ e in cc) in
         sym (text-pointed z some) ∙ append_assoc (sign_text z) (decimal (unsigned_abs z / 65536)) (46 ∷ part_text (unsigned_abs z % 65536))
-            ∙ ap (λ ds. sign_text z ++ ds) (sym (without-some (unsigned_abs z) lt some))
+        ∙ ap (λ ds. sign_text z ++ ds) (sym (without-some (unsigned_abs z) lt some))
 
 pub is_text : (z : ℤ) → unsigned_abs z < 2 ^ 64 → IsTextOf z (text_of z)
 is_text z lt = record {

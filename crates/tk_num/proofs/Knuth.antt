@@ -76,9 +76,11 @@ few_digits_read_back : (k f : ℕ) → 1 ≤ k → k ≤ 4 → 5 * (scaled_up k 
     → (reads_back k f ≡ true) × (scaled_up k f / 131072 ≡ nearest_digits k f)
 few_digits_read_back k f low high =
     by_place (λ n. 5 * (scaled_up n f % 131072) ≤ 10 ^ suc n → (reads_back n f ≡ true) × (scaled_up n f / 131072 ≡ nearest_digits n f))
-    (λ le. (eq-eqb _ _ (one_digit_reads_back f le).0, (one_digit_reads_back f le).1)) (λ le. (eq-eqb _ _ (two_digits_read_back f le).0,
-        (two_digits_read_back f le).1)) (λ le. (eq-eqb _ _ (three_digits_read_back f le).0, (three_digits_read_back f le).1))
-        (λ le. (eq-eqb _ _ (four_digits_read_back f le).0, (four_digits_read_back f le).1))
+    (λ le. (eq-eqb _ _ (one_digit_reads_back f le).0, (one_digit_reads_back f le).1)) (λ le. (
+      eq-eqb _ _ (two_digits_read_back f le).0,
+      (two_digits_read_back f le).1,
+    )) (λ le. (eq-eqb _ _ (three_digits_read_back f le).0, (three_digits_read_back f le).1))
+    (λ le. (eq-eqb _ _ (four_digits_read_back f le).0, (four_digits_read_back f le).1))
     k low high
 
 not_eqb : (m n : ℕ) → m ≢ n → eqb m n ≡ false
@@ -88,7 +90,7 @@ few_digits_are_too_few : (k f : ℕ) → 1 ≤ k → k ≤ 4 → 10 ^ suc k < 5 
 few_digits_are_too_few k f low high =
     by_place (λ n. 10 ^ suc n < 5 * (scaled_up n f % 131072) → reads_back n f ≡ false)
     (λ lt. not_eqb _ _ (one_digit_is_too_few f lt)) (λ lt. not_eqb _ _ (two_digits_are_too_few f lt))
-        (λ lt. not_eqb _ _ (three_digits_are_too_few f lt)) (λ lt. not_eqb _ _ (four_digits_are_too_few f lt))
+    (λ lt. not_eqb _ _ (three_digits_are_too_few f lt)) (λ lt. not_eqb _ _ (four_digits_are_too_few f lt))
     k low high
 
 -- the fewest digits are those that are found first
@@ -102,8 +104,12 @@ fewest_is k f low high =
     k low high
 
 five_digits_are_fewest : (f : ℕ) → ((j : ℕ) → 1 ≤ j → j ≤ 4 → reads_back j f ≡ false) → fewest_digits f ≡ 5
-five_digits_are_fewest f none = rw (none 1 (omega arith) (omega arith), none 2 (omega arith) (omega arith), none 3 (omega arith) (omega arith),
-    none 4 (omega arith) (omega arith)) refl
+five_digits_are_fewest f none = rw (
+  none 1 (omega arith) (omega arith),
+  none 2 (omega arith) (omega arith),
+  none 3 (omega arith) (omega arith),
+  none 4 (omega arith) (omega arith),
+) refl
 
 scaled-more : (k f : ℕ) → scaled_up (suc k) f ≡ 10 * scaled_up k f
 scaled-more k f = rw (pow-suc 10 k) (omega arith)
@@ -196,7 +202,7 @@ last_digit f rest delta s before now a e le =
           let rest_is : rest ≡ 5 * (scaled_up 4 f % 131072) = a.rest_is ∙ ap (λ k. 5 * (scaled_up k f % 131072)) four in
           let large : delta < rest = a.large (omega arith) in
           last_stop f s before now (a.done ∙ ap (λ k. before ++ fixed_digits k (scaled_up k f / 131072)) four) (taken_rounded delta rest s e delta_is
-              ∙ ap (λ r. r + 32768 - 50000) rest_is) (omega arith) (λ j low high. a.shorter j low (omega arith)))
+          ∙ ap (λ r. r + 32768 - 50000) rest_is) (omega arith) (λ j low high. a.shorter j low (omega arith)))
     ]
 
 short_go : (f k s delta : ℕ) (before now : List ℕ) → k < 4 → delta ≡ 10 ^ suc k → now ≡ before ++ fixed_digits k (scaled_up k f / 131072)
@@ -230,8 +236,14 @@ next_digit f rest delta s before now a e lt =
 -- how much room the digits so far take
 pub digits_room : (f rest delta : ℕ) (before now : List ℕ) → AtDigit f before now rest delta → length now ≤ length before + 4
 digits_room f rest delta before now a =
-    omega (arith, a.few, ap length a.done, length-append before (fixed_digits a.count (scaled_up a.count f / 131072)), length-fixed a.count
-    (scaled_up a.count f / 131072))
+    omega (
+      arith,
+      a.few,
+      ap length a.done,
+      length-append before (fixed_digits a.count (scaled_up a.count f / 131072)),
+      length-fixed a.count
+          (scaled_up a.count f / 131072),
+    )
 
 pub digit_is_small : (f rest delta s : ℕ) (before now : List ℕ) → AtDigit f before now rest delta
     → s ≡ cond (ltb 65536 delta) (rest + 32768 - 50000) rest → s < 655360

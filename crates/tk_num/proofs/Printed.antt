@@ -77,7 +77,7 @@ pointed_ascii : (z : ℤ) → unsigned_abs z < 2 ^ 64 → IsAscii (pointed_text 
 pointed_ascii z lt =
     let part = part_ascii (unsigned_abs z % 65536) in
     IsAscii-append (sign_text z ++ decimal (unsigned_abs z / 65536)) (46 ∷ part_text (unsigned_abs z % 65536)) (front_ascii z lt)
-        (IsAscii-cons 46 _ (lit< tt) part)
+    (IsAscii-cons 46 _ (lit< tt) part)
 
 text_ascii : (z : ℤ) → unsigned_abs z < 2 ^ 64 → IsAscii (text_of z)
 text_ascii z lt = by_test (eqb (unsigned_abs z % 65536) 0) refl

@@ -41,9 +41,9 @@ same_digits (x ∷ xs) (y ∷ ys) a b l v =
     let all : digit_value x * p + digits_value 10 xs ≡ digit_value y * p + digits_value 10 ys =
     sym (first_digit x xs) ∙ v ∙ first_digit y ys ∙ ap (λ n. digit_value y * 10 ^ n + digits_value 10 ys) (sym count) in
     let first : digit_value x ≡ digit_value y = quotient_same p (digits_value 10 xs) (digit_value x) (digits_value 10 ys) (digit_value y) low low2 all
-            in
+    in
     let rest : digits_value 10 xs ≡ digits_value 10 ys = rest_same (digit_value x * p) (digits_value 10 xs) (digits_value 10 ys) (all
-            ∙ ap (λ d. d * p + digits_value 10 ys) (sym first)) in
+    ∙ ap (λ d. d * p + digits_value 10 ys) (sym first)) in
     ap (λ c. c ∷ xs) (digit_same x y a.0 b.0 first) ∙ ap (λ cs. y ∷ cs) (same_digits xs ys a.1 b.1 count rest)
 
 digits_are_numerals : IsNumeralModel (AllDigits 10) (digits_value 10)
@@ -69,10 +69,10 @@ part_same n a b r s count number =
     let p : ℕ = n / 65536 * 10 ^ places a in
     let here = (text_splits n a r).number in
     let there : number_without_point b ≡ p + digits_value 10 (part_digits b) = (text_splits n b s).number
-            ∙ ap (λ j. n / 65536 * 10 ^ j + digits_value 10 (part_digits b)) (sym count) in
+    ∙ ap (λ j. n / 65536 * 10 ^ j + digits_value 10 (part_digits b)) (sym count) in
     let value : digits_value 10 (part_digits a) ≡ digits_value 10 (part_digits b) = rest_same p _ _ (sym here ∙ number ∙ there) in
     same_digits (part_digits a) (part_digits b) (are_digits _ (part_passes a r.pointed.digits)) (are_digits _ (part_passes b s.pointed.digits)) count
-        value
+    value
 
 only_chosen : (n : ℕ) (text : List ℕ) → n < 2 ^ 64 → IsChosen n text → text ≡ size_text n
 only_chosen n text lt h =

@@ -66,14 +66,16 @@ module _ (P : ℕ → Type 0) (given : Given) where
   pub behind_closed : (c : Configuration) (written : Cut) → At P given c → ClosedAt c written
       → Comes P given c (with_list c (unread written.rest c.list.end))
   behind_closed c written h w =
-      record { fell = record { end = refl; units = omega arith; work_falls = (let a = w.short in omega arith) };
-          at = record { env = h.env; rest = w.places.1; end = h.end } }
+      record {
+        fell = record { end = refl; units = omega arith; work_falls = (let a = w.short in omega arith) };
+        at = record { env = h.env; rest = w.places.1; end = h.end };
+      }
 
   behind_at : (sign : Sign) (at : ℕ) (c : Configuration) → P at → At P given c → Stands P (Reads WrittenAt c) (behind_parenthesis sign at c)
   unfolding behind_parenthesis
   behind_at sign at c p h =
       then_at P (ClosedAt c) (Reads WrittenAt c) (or_fault (before_char right_parenthesis c.list.rest) Coordinate at) _
-          (closed_at at c p h) (λ written w.
+      (closed_at at c p h) (λ written w.
       (record { place = p; text = w.places.0 }, behind_closed c written h w))
 
   parenthesized_at : (sign : Sign) (c : Configuration) (first : Lookahead) → Looks P given c first
@@ -81,16 +83,16 @@ module _ (P : ℕ → Type 0) (given : Given) where
   unfolding parenthesized
   parenthesized_at sign c first h =
       then_at P (Advances P given c) (Gains WrittenAt c) (must_be (is_char left_parenthesis) first) _ (must_at P given (is_char left_parenthesis) c
-          first h) (λ d a.
+      first h) (λ d a.
       weaker_at P (Reads WrittenAt d) (Gains WrittenAt c) (behind_parenthesis sign (place_ahead first) d)
-          (λ r k. (k.0, advances_then P given c d r.behind a k.1)) (behind_at sign (place_ahead first) d (place_at P first.behind.list.end first.token
-          h.at.end h.token) a.at))
+      (λ r k. (k.0, advances_then P given c d r.behind a k.1)) (behind_at sign (place_ahead first) d (place_at P first.behind.list.end first.token
+      h.at.end h.token) a.at))
 
   past_at : (c : Configuration) (first : Lookahead) → Looks P given c first → Stands P (Looks P given c) (past_spaces_from given first)
   past_at c first h =
       if_at P (Looks P given c) (is_there is_space first.token) (ahead_of given first.behind) (Ok first)
       (weaker_at P (Looks P given first.behind) (Looks P given c) (ahead_of given first.behind) (λ next k. then_looks P given c first.behind next
-          (looked P given c first h) k) (ahead_at P given first.behind h.at))
+      (looked P given c first h) k) (ahead_at P given first.behind h.at))
       h
 
   plus_at : (c : Configuration) → At P given c → Stands P (Gains WrittenAt c) (behind_plus given c)
@@ -98,11 +100,11 @@ module _ (P : ℕ → Type 0) (given : Given) where
   plus_at c h =
       then_at P (Looks P given c) (Gains WrittenAt c) (token_ahead given c) _ (token_at P given c h) (λ second k.
       if_at P (Gains WrittenAt c) (is_there (is_char plus) second.token) (ahead_of given second.behind >>= parenthesized signs.Leading)
-          (past_spaces_from given second >>= parenthesized signs.Relative)
+      (past_spaces_from given second >>= parenthesized signs.Relative)
       (then_at P (Looks P given second.behind) (Gains WrittenAt c) (ahead_of given second.behind) _ (ahead_at P given second.behind k.at) (λ first a.
       parenthesized_at signs.Leading c first (then_looks P given c second.behind first (looked P given c second k) a)))
       (then_at P (Looks P given c) (Gains WrittenAt c) (past_spaces_from given second) _ (past_at c second k) (λ first a. parenthesized_at
-          signs.Relative c first a)))
+      signs.Relative c first a)))
 
   pub coordinate_from_at : (c : Configuration) (first : Lookahead) → Looks P given c first
       → Stands P (Gains WrittenAt c) (coordinate_from given first)
@@ -110,7 +112,7 @@ module _ (P : ℕ → Type 0) (given : Given) where
   coordinate_from_at c first h =
       if_at P (Gains WrittenAt c) (is_there (is_char plus) first.token) (behind_plus given first.behind) (parenthesized signs.Absolute first)
       (weaker_at P (Gains WrittenAt first.behind) (Gains WrittenAt c) (behind_plus given first.behind)
-          (λ r k. (k.0, then_advances P given c first.behind r.behind (looked P given c first h) k.1)) (plus_at first.behind h.at))
+      (λ r k. (k.0, then_advances P given c first.behind r.behind (looked P given c first h) k.1)) (plus_at first.behind h.at))
       (parenthesized_at signs.Absolute c first h)
 
   -- ---- points
@@ -122,13 +124,21 @@ module _ (P : ℕ → Type 0) (given : Given) where
     point_at from w c k h =
         let inside = stream c.picture.units (unread w.text w.at) in
         then_at P (λ (r : Stream). StreamAt P r × (c.picture.units ≤ r.units)) (Reads AnyValue c) (full given.budget c.env.macros inside) _
-            (both_at P (StreamAt P) (λ (r : Stream). c.picture.units ≤ r.units) (full given.budget c.env.macros inside)
-            (full_at P given.budget c.env.macros h.env.bodies inside k.text) (full_spends given.budget c.env.macros inside)) (λ text a.
+        (both_at P (StreamAt P) (λ (r : Stream). c.picture.units ≤ r.units) (full given.budget c.env.macros inside)
+        (full_at P given.budget c.env.macros h.env.bodies inside k.text) (full_spends given.budget c.env.macros inside)) (λ text a.
         let g = c.env.graphics in
         then_at P (λ (p : Point). Unit {0}) (Reads AnyValue c) (point_of given.evaluate given.font g.look g.matrix w.at (start_of w.sign from)
-            text.list.rest) _
+        text.list.rest) _
         (only_fault P (point_of given.evaluate given.font g.look g.matrix w.at (start_of w.sign from) text.list.rest)
-            (point_fine P w.at k.place given.evaluate given.font g.look g.matrix (λ ts l. evaluates w.at ts k.place l) (start_of w.sign from)
-            text.list.rest a.0)) (λ p _.
-        (tt, record { fell = record { end = refl; units = a.1; work_falls = (let b = a.1 in omega arith) }; at = record { env = h.env; rest = h.rest;
-            end = h.end } })))
+        (point_fine P w.at k.place given.evaluate given.font g.look g.matrix (λ ts l. evaluates w.at ts k.place l) (start_of w.sign from)
+        text.list.rest a.0)) (λ p _. (
+          tt,
+          record {
+            fell = record { end = refl; units = a.1; work_falls = (let b = a.1 in omega arith) };
+            at = record {
+              env = h.env;
+              rest = h.rest;
+              end = h.end;
+            };
+          },
+        )))

@@ -33,18 +33,18 @@ module _ (P : ℕ → Type 0) (at : ℕ) (here : P at) where
   line_stands : (m : Matrix) (budget units : ℕ) (line : GridLine) → Stands P (λ (g : Grid). units ≤ g.units) (line_drawn m budget at units line)
   line_stands m budget units line =
       then_at P (λ (now : ℕ). (now ≡ units + 1) × (now ≤ budget)) (λ (g : Grid). units ≤ g.units) (pay budget units 1 at) _
-          (pay_stands budget units) (λ now h.
+      (pay_stands budget units) (λ now h.
       then_at P (λ (segs : List Seg). Unit {0}) (λ (g : Grid). units ≤ g.units) (answer_at at (line_pieces m line)) _
-          (found_stands (line_pieces m line)) (λ segs _. (let a = h.0 in omega arith)))
+      (found_stands (line_pieces m line)) (λ segs _. (let a = h.0 in omega arith)))
 
   lines_stand : (m : Matrix) (budget units : ℕ) (lines : List GridLine)
       → Stands P (λ (g : Grid). units ≤ g.units) (lines_drawn m budget at units lines)
   lines_stand m budget units [] = omega arith
   lines_stand m budget units (line ∷ lines) =
       then_at P (λ (g : Grid). units ≤ g.units) (λ (g : Grid). units ≤ g.units) (line_drawn m budget at units line) _ (line_stands m budget units
-          line) (λ first h.
+      line) (λ first h.
       then_at P (λ (g : Grid). first.units ≤ g.units) (λ (g : Grid). units ≤ g.units) (lines_drawn m budget at first.units lines) _
-          (lines_stand m budget first.units lines) (λ others k. omega arith))
+      (lines_stand m budget first.units lines) (λ others k. omega arith))
 
   pub grid_stands : (m : Matrix) (p q : Point) (sx sy : ℤ) (budget units : ℕ)
       → Stands P (λ (g : Grid). units ≤ g.units) (grid_pieces m p q sx sy budget at units)
@@ -52,6 +52,6 @@ module _ (P : ℕ → Type 0) (at : ℕ) (here : P at) where
   grid_stands m p q sx sy budget units =
       if_at P (λ (g : Grid). units ≤ g.units) (int_lt (pos 0) sx && int_lt (pos 0) sy) _ (fault Domain at)
       (then_at P (λ (ends : Point × Point). Unit {0}) (λ (g : Grid). units ≤ g.units) (answer_at at (corners m p q)) _
-          (found_stands (corners m p q)) (λ between _.
+      (found_stands (corners m p q)) (λ between _.
       lines_stand m budget units (grid_lines between.0 between.1 sx sy)))
       here

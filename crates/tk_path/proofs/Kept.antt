@@ -21,10 +21,14 @@ keeps_then a b c f g = record {
 -- what was given for a run is the same
 pub same_given : (ev : Evaluation) (s t : State) → Keeps s t → given_of ev t ≡ given_of ev s
 same_given ev s t k =
-    let given : (names : _) (font : _) (budget : _) → Given = λ names font budget. record { names = names; evaluate = ev; font = font;
-            budget = budget } in
+    let given : (names : _) (font : _) (budget : _) → Given = λ names font budget. record {
+      names = names;
+      evaluate = ev;
+      font = font;
+      budget = budget;
+    } in
     ap (λ names. given names t.font t.budget) k.names ∙ ap (λ font. given s.names font t.budget) k.font
-        ∙ ap (λ budget. given s.names s.font budget) k.budget
+    ∙ ap (λ budget. given s.names s.font budget) k.budget
 
 -- one drawer after the other
 pub drawn_then : (a b c : Drawer) → KeepsDrawn a b → KeepsDrawn b c → KeepsDrawn a c

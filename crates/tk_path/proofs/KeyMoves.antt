@@ -34,14 +34,20 @@ module _ (P : ℕ → Type 0) (given : Given) (begin : P 0) (values : EvaluatesA
   keys_at at list c p k h =
       let job = A_key_list (situation_at c) (codes "/tikz") list at in
       then_at P (EndingAt P given values job) (Comes P given c) (runs given job) _ (runs_at P given values begin job (h.env, (k, p))) (λ after l.
-      record { fell = record { end = refl; units = l.units; work_falls = (let a = l.units in omega arith) }; at = record { env = l.env; rest = h.rest;
-          end = h.end } })
+      record {
+        fell = record { end = refl; units = l.units; work_falls = (let a = l.units in omega arith) };
+        at = record {
+          env = l.env;
+          rest = h.rest;
+          end = h.end;
+        };
+      })
 
   pub style_at : (at : ℕ) (name : List ℕ) (c : Configuration) → P at → At P given c → Stands P (Comes P given c) (with_style given at name c)
   unfolding with_style
   style_at at name c p h =
       if_at P (Comes P given c) (is_some (run_at c.env (tikz_path name))) (with_keys given at (tokens_of at name) c) (Ok c)
-          (keys_at at (tokens_of at name) c p (text_stands P at name p) h) (stays P given c h)
+      (keys_at at (tokens_of at name) c p (text_stands P at name p) h) (stays P given c h)
 
   -- a key list in brackets, and what is behind it
   pub list_at : (at : ℕ) (c : Configuration) → P at → At P given c → Stands P (Reads P given (StandAt P) c) (option_list at c)
@@ -51,33 +57,40 @@ module _ (P : ℕ → Type 0) (given : Given) (begin : P 0) (values : EvaluatesA
     where
       by : (o : Option Cut) → IfSome o (CutAt P) → IfSome o (λ w. length w.front + length w.rest < length c.list.rest)
           → Stands P (Reads P given (StandAt P) c) (or_fault o PathSyntax at
-              >>= λ list. Ok (reached list.front (with_list c (unread list.rest c.list.end))))
+          >>= λ list. Ok (reached list.front (with_list c (unread list.rest c.list.end))))
       by None k s = p
-      by (Some list) k s = (k.0, record { fell = record { end = refl; units = omega arith; work_falls = omega arith };
-          at = record { env = h.env; rest = k.1; end = h.end } })
+      by (Some list) k s = (
+        k.0,
+        record {
+          fell = record { end = refl; units = omega arith; work_falls = omega arith };
+          at = record { env = h.env; rest = k.1; end = h.end };
+        },
+      )
 
   pub options_at : (at : ℕ) (c : Configuration) → P at → At P given c → Stands P (Comes P given c) (options given at c)
   unfolding options
   options_at at c p h =
       then_at P (Reads P given (StandAt P) c) (Comes P given c) (option_list at c) _ (list_at at c p h) (λ list k.
       weaker_at P (Comes P given list.behind) (Comes P given c) (with_keys given at list.value list.behind) (λ e m. comes_then P given c list.behind e
-          k.1 m) (keys_at at list.value list.behind p k.0 k.1.at))
+      k.1 m) (keys_at at list.value list.behind p k.0 k.1.at))
 
   pub back_at : (c : Configuration) (token : Option Tok) (d : Configuration) → Looks P given c (lookahead token d)
       → Comes P given c (put_back token d)
   back_at c None d h = looked P given c (lookahead None d) h
   back_at c (Some t) d h =
-      record { fell = record { end = h.takes.end; units = h.takes.units; work_falls = (let a = h.takes.work_falls in omega arith) };
-          at = record { env = h.at.env; rest = (h.token, h.at.rest); end = h.at.end } }
+      record {
+        fell = record { end = h.takes.end; units = h.takes.units; work_falls = (let a = h.takes.work_falls in omega arith) };
+        at = record { env = h.at.env; rest = (h.token, h.at.rest); end = h.at.end };
+      }
 
   from_at : (c : Configuration) (first : Lookahead) → Looks P given c first → Stands P (Comes P given c) (options_from given first)
   unfolding options_from
   from_at c first h =
       if_at P (Comes P given c) (is_there (is_char left_bracket) first.token) (options given (place_ahead first) first.behind)
-          (Ok (put_back first.token first.behind))
+      (Ok (put_back first.token first.behind))
       (weaker_at P (Comes P given first.behind) (Comes P given c) (options given (place_ahead first) first.behind) (λ e m. comes_then P given c
-          first.behind e (looked P given c first h) m) (options_at (place_ahead first) first.behind (place_at P first.behind.list.end first.token
-          h.at.end h.token) h.at))
+      first.behind e (looked P given c first h) m) (options_at (place_ahead first) first.behind (place_at P first.behind.list.end first.token
+      h.at.end h.token) h.at))
       (back_at c first.token first.behind h)
 
   pub ahead_options_at : (c : Configuration) → At P given c → Stands P (Comes P given c) (options_ahead given c)

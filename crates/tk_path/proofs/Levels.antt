@@ -40,14 +40,14 @@ module _ (given now : Given) (at : ℕ) (c d : Configuration) (list : Reached (L
   unfolding inner_measures
   inner_goes =
       then_is (option_list at c) (λ (l : Reached (List Tok)). level at c.env >>= λ i. with_keys given at l.value (with_env i l.behind)
-          >>= end_of) list read
+      >>= end_of) list read
       ∙ then_is (level at c.env) (λ (i : Env). with_keys given at list.value (with_env i list.behind) >>= end_of) inside within
 
   pub inner_fails : (e : Refusal) → Fails e (with_keys now at list.value d) → Fails e (inner_measures given at c)
   inner_fails e h =
       fails_as e _ _ inner_goes (fails_then e (with_keys given at list.value (with_env inside list.behind)) end_of
       (subst (λ (d : Configuration). Fails e (with_keys given at list.value d)) is (subst (λ (g : Given). Fails e (with_keys g at list.value d)) same
-          h)))
+      h)))
 
   pub inner_ends : (e : Configuration) → with_keys now at list.value d ≡ Ok e
       → inner_measures given at c ≡ Ok (reached (measures_of e.env.graphics) (with_env c.env e))

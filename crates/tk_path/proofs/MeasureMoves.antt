@@ -64,7 +64,7 @@ module _ (P : ℕ → Type 0) (given : Given) where
     by_at text (Some c) h k =
         then_at P AnyValue AnyValue (given.evaluate given.font at c.front) _ (value_at c.front k.0) (λ r _.
         then_at P AnyValue AnyValue (given.evaluate given.font at (drop 3 c.rest)) _ (value_at (drop 3 c.rest) (dropped_at P 3 c.rest k.1))
-            (λ s _. tt))
+        (λ s _. tt))
 
     pub radii_at : (text : List Tok) → StandAt P text → Stands P AnyValue (radii_in given.evaluate given.font at text)
     unfolding radii_in
@@ -77,9 +77,9 @@ module _ (P : ℕ → Type 0) (given : Given) where
     unfolding arc_in
     arc_at text h =
         then_at P (CutAt P) AnyValue (or_fault (before_char colon text) PathSyntax at) _ (or_at P (CutAt P) (before_char colon text) PathSyntax at
-            here (before_char_keeps (λ (t : Tok). P t.at) colon text h)) (λ first k.
+        here (before_char_keeps (λ (t : Tok). P t.at) colon text h)) (λ first k.
         then_at P (CutAt P) AnyValue (or_fault (before_char colon first.rest) PathSyntax at) _ (or_at P (CutAt P) (before_char colon first.rest)
-            PathSyntax at here (before_char_keeps (λ (t : Tok). P t.at) colon first.rest k.1)) (λ second l.
+        PathSyntax at here (before_char_keeps (λ (t : Tok). P t.at) colon first.rest k.1)) (λ second l.
         then_at P AnyValue AnyValue (angle_in given.evaluate given.font at first.front) _ (angle_at first.front k.0) (λ a _.
         then_at P AnyValue AnyValue (angle_in given.evaluate given.font at second.front) _ (angle_at second.front l.0) (λ b _.
         then_at P AnyValue AnyValue (radii_in given.evaluate given.font at second.rest) _ (radii_at second.rest l.1) (λ radii _. tt)))))
@@ -99,11 +99,14 @@ module _ (P : ℕ → Type 0) (given : Given) where
         let d = with_env inside list.behind in
         let there : At P given d = record { env = l h.env; rest = k.1.at.rest; end = k.1.at.end } in
         then_at P (Comes P given d) (Reads P given AnyValue c) (with_keys given at list.value d) _ (keys_at P given begin evaluates at list.value d p
-            k.0 there) (λ e m. (
+        k.0 there) (λ e m. (
           tt,
           record {
-            fell = record { end = m.fell.end ∙ k.1.fell.end; units = (let u = k.1.fell.units in let v = m.fell.units in omega arith);
-                work_falls = (let u = k.1.fell.work_falls in let v = m.fell.work_falls in omega arith) };
+            fell = record {
+              end = m.fell.end ∙ k.1.fell.end;
+              units = (let u = k.1.fell.units in let v = m.fell.units in omega arith);
+              work_falls = (let u = k.1.fell.work_falls in let v = m.fell.work_falls in omega arith);
+            };
             at = record { env = h.env; rest = m.at.rest; end = m.at.end };
           },
         ))))
@@ -115,6 +118,6 @@ module _ (P : ℕ → Type 0) (given : Given) where
         if_at P (Reads P given AnyValue c) (is_there (is_char left_bracket) first.token) (inner_measures given (place_ahead first) first.behind)
         (Ok (reached (measures_of first.behind.env.graphics) (put_back first.token first.behind)))
         (weaker_at P (Reads P given AnyValue first.behind) (Reads P given AnyValue c) (inner_measures given (place_ahead first) first.behind)
-            (λ r k. (tt, looked_then P given c first r.behind h k.1)) (inner_at (place_ahead first) first.behind (place_at P first.behind.list.end
-            first.token h.at.end h.token) h.at))
+        (λ r k. (tt, looked_then P given c first r.behind h k.1)) (inner_at (place_ahead first) first.behind (place_at P first.behind.list.end
+        first.token h.at.end h.token) h.at))
         (tt, back_at P given begin evaluates c first.token first.behind h)

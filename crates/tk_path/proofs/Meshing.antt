@@ -39,7 +39,7 @@ module _ (m : Matrix) (budget at : ℕ) where
   line_grid units line =
       then_holds (λ (n : ℕ). Unit {0}) GridBegins (pay budget units 1 at) _ (any_value (pay budget units 1 at)) (λ paid _.
       then_holds BeginsOrNone GridBegins (answer_at at (line_pieces m line)) _ (found_begins at (line_pieces m line) (line_begins m line))
-          (λ segs h. h))
+      (λ segs h. h))
 
   lines_grid : (units : ℕ) (lines : List GridLine) → IfOk (lines_drawn m budget at units lines) GridBegins
   lines_grid units [] = tt

@@ -56,15 +56,20 @@ module _ (P : ℕ → Type 0) (given : Given) where
 
   pub then_looks : (c d : Configuration) (ahead : Lookahead) → Comes c d → Looks d ahead → Looks c ahead
   then_looks c d ahead a b = record {
-    takes = record { end = b.takes.end ∙ a.fell.end; units = (let u = a.fell.units in let v = b.takes.units in omega arith);
-        work_falls = (let u = a.fell.work_falls in let v = b.takes.work_falls in omega arith) };
+    takes = record {
+      end = b.takes.end ∙ a.fell.end;
+      units = (let u = a.fell.units in let v = b.takes.units in omega arith);
+      work_falls = (let u = a.fell.work_falls in let v = b.takes.work_falls in omega arith);
+    };
     token = b.token;
     at = b.at;
   }
 
   pub looked : (c : Configuration) (ahead : Lookahead) → Looks c ahead → Comes c ahead.behind
-  looked c ahead h = record { fell = record { end = h.takes.end; units = h.takes.units; work_falls = (let a = h.takes.work_falls in omega arith) };
-      at = h.at }
+  looked c ahead h = record {
+    fell = record { end = h.takes.end; units = h.takes.units; work_falls = (let a = h.takes.work_falls in omega arith) };
+    at = h.at;
+  }
 
   must_some : (wanted : Kind → Bool) (c : Configuration) (token : Option Tok) (d : Configuration) → Looks c (lookahead token d)
       → Stands P (Advances c) (must_be wanted (lookahead token d))
@@ -82,16 +87,16 @@ module _ (P : ℕ → Type 0) (given : Given) where
   unfolding ahead_of
   ahead_at c h =
       then_at P (λ (n : Next). NextAt P n × Takes given.budget (stream_at c) n) (Looks c) (next_solid given.budget c.env.macros (stream_at c)) _
-          (both_at P (NextAt P) (Takes given.budget (stream_at c)) (next_solid given.budget c.env.macros (stream_at c)) (next_solid_at P given.budget
-          c.env.macros h.env.bodies (stream_at c) h.rest) (next_solid_takes given.budget c.env.macros (stream_at c))) (λ n k.
+      (both_at P (NextAt P) (Takes given.budget (stream_at c)) (next_solid given.budget c.env.macros (stream_at c)) (next_solid_at P given.budget
+      c.env.macros h.env.bodies (stream_at c) h.rest) (next_solid_takes given.budget c.env.macros (stream_at c))) (λ n k.
       record { takes = k.1; token = k.0.0; at = record { env = h.env; rest = k.0.1; end = subst P (sym k.1.end) h.end } })
 
   pub token_at : (c : Configuration) → At c → Stands P (Looks c) (token_ahead given c)
   unfolding token_ahead
   token_at c h =
       then_at P (λ (n : Next). NextAt P n × Takes given.budget (stream_at c) n) (Looks c) (next given.budget c.env.macros (stream_at c)) _
-          (both_at P (NextAt P) (Takes given.budget (stream_at c)) (next given.budget c.env.macros (stream_at c)) (next_at P given.budget c.env.macros
-          h.env.bodies (stream_at c) h.rest) (next_takes given.budget c.env.macros (stream_at c))) (λ n k.
+      (both_at P (NextAt P) (Takes given.budget (stream_at c)) (next given.budget c.env.macros (stream_at c)) (next_at P given.budget c.env.macros
+      h.env.bodies (stream_at c) h.rest) (next_takes given.budget c.env.macros (stream_at c))) (λ n k.
       record { takes = k.1; token = k.0.0; at = record { env = h.env; rest = k.0.1; end = subst P (sym k.1.end) h.end } })
 
   -- nothing is read

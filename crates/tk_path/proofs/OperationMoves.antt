@@ -90,10 +90,10 @@ module _ (P : ℕ → Type 0) (given : Given) (begin : P 0) (evaluates : Evaluat
   drawn_at Straight end c k h = same_comes P given _ c c (stays P given c h)
   drawn_at (Cornered sign at) end c k h =
       then_at P (λ (p : Point). Unit {0}) (To c) (answer_at at (corner_between sign c.env.graphics.matrix (here c) end)) _ (corner_at at _ k)
-          (λ corner _. same_comes P given _ c c (stays P given c h))
+      (λ corner _. same_comes P given _ c c (stays P given c h))
   drawn_at (Curved first second) end c k h =
       then_at P (Reads P given AnyValue c) (To c) (control_point given end second c) _ (control_at end second c k h) (λ control a. same_comes P given
-          _ c control.behind a.1)
+      _ c control.behind a.1)
 
   back_at : (way : Way) (c d : Configuration) → Comes P given c d → Comes P given c (with_current (with_close d.picture.path) d)
   back_at way c d a = same_comes P given (with_close d.picture.path) c d a
@@ -108,10 +108,10 @@ module _ (P : ℕ → Type 0) (given : Given) (begin : P 0) (evaluates : Evaluat
   way_at Straight The_start c k l h = same_comes P given _ c c (stays P given c h)
   way_at (Cornered sign at) The_start c k l h =
       then_at P (To c) (To c) (way_drawn given (Cornered sign at) (subpath_start (origin_of c.env) c.picture.path) c) _ (drawn_at (Cornered sign at)
-          (subpath_start (origin_of c.env) c.picture.path) c k h) (λ d a. back_at Straight c d a)
+      (subpath_start (origin_of c.env) c.picture.path) c k h) (λ d a. back_at Straight c d a)
   way_at (Curved first second) The_start c k l h =
       then_at P (To c) (To c) (way_drawn given (Curved first second) (subpath_start (origin_of c.env) c.picture.path) c) _
-          (drawn_at (Curved first second) (subpath_start (origin_of c.env) c.picture.path) c k h) (λ d a. back_at Straight c d a)
+      (drawn_at (Curved first second) (subpath_start (origin_of c.env) c.picture.path) c k h) (λ d a. back_at Straight c d a)
 
   goes_at : (way : Way) (c : Configuration) → WayAt way → At P given c → Stands P (To c) (goes given way c)
   unfolding goes
@@ -126,13 +126,13 @@ module _ (P : ℕ → Type 0) (given : Given) (begin : P 0) (evaluates : Evaluat
   ahead_control_at c h =
       then_at P (Looks P given c) (Reads P given (WrittenAt P given) c) (ahead_of given c) _ (ahead_at P given c h) (λ first k.
       weaker_at P (Gains P given (WrittenAt P given) c) (Reads P given (WrittenAt P given) c) (coordinate_from given first)
-          (λ r a. (a.0, comes P given c r.behind a.1)) (coordinate_from_at P given c first k))
+      (λ r a. (a.0, comes P given c r.behind a.1)) (coordinate_from_at P given c first k))
 
   second_at : (w : Written) (sign : Sign) (c : Configuration) → WrittenAt P given w → At P given c
       → Stands P (Reads P given ControlAt c) (second_control given w sign c)
   second_at w signs.Absolute c k h =
       then_at P (Reads P given AnyValue c) (Reads P given ControlAt c) (coordinate_point given (reference c) w c) _ (point_at P given evaluates
-          (reference c) w c k h) (λ p a. (tt, a.1))
+      (reference c) w c k h) (λ p a. (tt, a.1))
   second_at w signs.Relative c k h = (k, stays P given c h)
   second_at w signs.Leading c k h = (k, stays P given c h)
 
@@ -140,9 +140,9 @@ module _ (P : ℕ → Type 0) (given : Given) (begin : P 0) (evaluates : Evaluat
   and_at p c h =
       then_at P (Reads P given (WrittenAt P given) c) (Reads P given WayAt c) (control_ahead given c) _ (ahead_control_at c h) (λ written a.
       then_at P (Reads P given ControlAt written.behind) (Reads P given WayAt c) (second_control given written.value written.value.sign
-          written.behind) _ (second_at written.value written.value.sign written.behind a.0 a.1.at) (λ second b.
+      written.behind) _ (second_at written.value written.value.sign written.behind a.0 a.1.at) (λ second b.
       then_at P (To second.behind) (Reads P given WayAt c) (past_word given (codes "..") second.behind) _ (behind_word_at P given (codes "..")
-          second.behind b.1.at) (λ d e.
+      second.behind b.1.at) (λ d e.
       (b.0, comes_then P given c written.behind d a.1 (comes_then P given written.behind second.behind d b.1 e)))))
 
   behind_at : (p : Point) (word : PathWord) (c : Configuration) → At P given c → Stands P (Reads P given WayAt c) (curve_behind given p word c)
@@ -166,18 +166,18 @@ module _ (P : ℕ → Type 0) (given : Given) (begin : P 0) (evaluates : Evaluat
       then_at P (To c) (Reads P given AnyValue c) (past_word given (codes "controls") c) _ (behind_word_at P given (codes "controls") c h) (λ d a.
       then_at P (Reads P given (WrittenAt P given) d) (Reads P given AnyValue c) (control_ahead given d) _ (ahead_control_at d a.at) (λ written b.
       weaker_at P (Reads P given AnyValue written.behind) (Reads P given AnyValue c) (coordinate_point given (reference written.behind) written.value
-          written.behind) (λ r e. (tt, comes_then P given c d r.behind a (comes_then P given d written.behind r.behind b.1 e.1)))
-          (point_at P given evaluates (reference written.behind) written.value written.behind b.0 b.1.at)))
+      written.behind) (λ r e. (tt, comes_then P given c d r.behind a (comes_then P given d written.behind r.behind b.1 e.1)))
+      (point_at P given evaluates (reference written.behind) written.value written.behind b.0 b.1.at)))
 
   curve_way_at : (c : Configuration) → At P given c → Stands P (Reads P given WayAt c) (curve_way given c)
   unfolding curve_way
   curve_way_at c h =
       then_at P (Reads P given AnyValue c) (Reads P given WayAt c) (first_control given c) _ (first_at c h) (λ first e.
       then_at P (Gains P given AnyValue first.behind) (Reads P given WayAt c) (word_ahead given Controls first.behind) _
-          (word_ahead_at P given Controls first.behind e.1.at) (λ word f.
+      (word_ahead_at P given Controls first.behind e.1.at) (λ word f.
       let so_far = comes_then P given c first.behind word.behind e.1 (comes P given first.behind word.behind f.1) in
       weaker_at P (Reads P given WayAt word.behind) (Reads P given WayAt c) (curve_behind given first.value word.value word.behind)
-          (λ r g. (g.0, comes_then P given c word.behind r.behind so_far g.1)) (behind_at first.value word.value word.behind f.1.at)))
+      (λ r g. (g.0, comes_then P given c word.behind r.behind so_far g.1)) (behind_at first.value word.value word.behind f.1.at)))
 
   curve_at : (c : Configuration) → At P given c → Stands P (To c) (curve given c)
   unfolding curve
@@ -196,19 +196,23 @@ module _ (P : ℕ → Type 0) (given : Given) (begin : P 0) (evaluates : Evaluat
   rectangle_at at c p h =
       then_at P (Reads P given AnyValue c) (To c) (goal_ahead given c) _ (goal_ahead_at P given evaluates c h) (λ end a.
       then_at P (λ (path : CurrentPath). Unit {0}) (To c) (answer_at at (boxed (origin_of c.env) c.env.graphics.matrix end.value c.picture.path)) _
-          (found_path at _ p) (λ path _. same_comes P given path c end.behind a.1))
+      (found_path at _ p) (λ path _. same_comes P given path c end.behind a.1))
 
   text_at : (at : ℕ) (c : Configuration) → P at → At P given c → Stands P (Reads P given (StandAt P) c) (text_behind given at c)
   unfolding text_behind
   text_at at c p h =
       then_at P (ClosedAt P given c) (Reads P given (StandAt P) c) (or_fault (before_char right_parenthesis c.list.rest) Coordinate at) _
-          (closed_at P given at c p h) (λ written w.
+      (closed_at P given at c p h) (λ written w.
       let inside = stream c.picture.units (unread written.front at) in
       then_at P (λ (r : Stream). StreamAt P r × (c.picture.units ≤ r.units)) (Reads P given (StandAt P) c) (full given.budget c.env.macros inside) _
-          (both_at P (StreamAt P) (λ (r : Stream). c.picture.units ≤ r.units) (full given.budget c.env.macros inside)
-          (full_at P given.budget c.env.macros h.env.bodies inside w.places.0) (full_spends given.budget c.env.macros inside)) (λ text k.
-      (k.0, record { fell = record { end = refl; units = k.1; work_falls = (let a = w.short in let b = k.1 in omega arith) };
-          at = record { env = h.env; rest = w.places.1; end = h.end } })))
+      (both_at P (StreamAt P) (λ (r : Stream). c.picture.units ≤ r.units) (full given.budget c.env.macros inside)
+      (full_at P given.budget c.env.macros h.env.bodies inside w.places.0) (full_spends given.budget c.env.macros inside)) (λ text k. (
+        k.0,
+        record {
+          fell = record { end = refl; units = k.1; work_falls = (let a = w.short in let b = k.1 in omega arith) };
+          at = record { env = h.env; rest = w.places.1; end = h.end };
+        },
+      )))
 
   circle_with_at : (at : ℕ) (m : Measures) (c : Configuration) → P at → At P given c → Stands P (To c) (circle_with at m c)
   unfolding circle_with
@@ -216,7 +220,7 @@ module _ (P : ℕ → Type 0) (given : Given) (begin : P 0) (evaluates : Evaluat
       then_at P (λ (n : ℤ). Unit {0}) (To c) (length_across m at m.radii.x) _ (length_at P given m.x at m.radii.x p) (λ rx _.
       then_at P (λ (n : ℤ). Unit {0}) (To c) (length_upward m at m.radii.y) _ (length_at P given m.y at m.radii.y p) (λ ry _.
       then_at P (λ (path : CurrentPath). Unit {0}) (To c) (answer_at at (circled (origin_of c.env) m.matrix rx ry c.picture.path)) _
-          (found_path at _ p) (λ path _. same_comes P given path c c (stays P given c h))))
+      (found_path at _ p) (λ path _. same_comes P given path c c (stays P given c h))))
 
   circle_measures_at : (c : Configuration) (first : Lookahead) → Looks P given c first
       → Stands P (Reads P given AnyValue c) (circle_measures given first)
@@ -225,9 +229,9 @@ module _ (P : ℕ → Type 0) (given : Given) (begin : P 0) (evaluates : Evaluat
       let place = place_at P first.behind.list.end first.token h.at.end h.token in
       if_at P (Reads P given AnyValue c) (is_there (is_char left_parenthesis) first.token) _ (measures_from given first)
       (then_at P (Reads P given (StandAt P) first.behind) (Reads P given AnyValue c) (text_behind given (place_ahead first) first.behind) _
-          (text_at (place_ahead first) first.behind place h.at) (λ text a.
+      (text_at (place_ahead first) first.behind place h.at) (λ text a.
       then_at P (λ (r : Radii). Unit {0}) (Reads P given AnyValue c) (radii_in given.evaluate given.font (place_ahead first) text.value) _
-          (radii_at P given evaluates (place_ahead first) place text.value a.0) (λ radii _.
+      (radii_at P given evaluates (place_ahead first) place text.value a.0) (λ radii _.
       (tt, looked_then P given c first text.behind h a.1))))
       (measures_at P given begin evaluates c first h)
 
@@ -247,7 +251,7 @@ module _ (P : ℕ → Type 0) (given : Given) (begin : P 0) (evaluates : Evaluat
       then_at P (λ (n : ℤ). Unit {0}) (To c) (length_across m at m.radii.x) _ (length_at P given m.x at m.radii.x p) (λ rx _.
       then_at P (λ (n : ℤ). Unit {0}) (To c) (length_upward m at m.radii.y) _ (length_at P given m.y at m.radii.y p) (λ ry _.
       then_at P (λ (path : CurrentPath). Unit {0}) (To c) (answer_at at (arced (origin_of c.env) m.matrix arc.sweep rx ry c.picture.path)) _
-          (found_path at _ p) (λ path _. same_comes P given path c c (stays P given c h))))
+      (found_path at _ p) (λ path _. same_comes P given path c c (stays P given c h))))
 
   arc_measures_at : (at : ℕ) (c : Configuration) (first : Lookahead) → P at → Looks P given c first
       → Stands P (Reads P given AnyValue c) (arc_measures given at first)
@@ -256,16 +260,16 @@ module _ (P : ℕ → Type 0) (given : Given) (begin : P 0) (evaluates : Evaluat
       let place = place_at P first.behind.list.end first.token h.at.end h.token in
       if_at P (Reads P given AnyValue c) (is_there (is_char left_parenthesis) first.token) _ _
       (then_at P (Reads P given (StandAt P) first.behind) (Reads P given AnyValue c) (text_behind given (place_ahead first) first.behind) _
-          (text_at (place_ahead first) first.behind place h.at) (λ text a.
+      (text_at (place_ahead first) first.behind place h.at) (λ text a.
       then_at P (λ (r : ArcText). Unit {0}) (Reads P given AnyValue c) (arc_in given.evaluate given.font (place_ahead first) text.value) _
-          (arc_at P given evaluates (place_ahead first) place text.value a.0) (λ found _.
+      (arc_at P given evaluates (place_ahead first) place text.value a.0) (λ found _.
       (tt, looked_then P given c first text.behind h a.1))))
       (if_at P (Reads P given AnyValue c) (is_there (is_char left_bracket) first.token) _ (fault PathSyntax (place_ahead first))
       (then_at P (Reads P given AnyValue first.behind) (Reads P given AnyValue c) (inner_measures given (place_ahead first) first.behind) _
-          (inner_at P given begin evaluates (place_ahead first) first.behind place h.at) (λ measures a.
+      (inner_at P given begin evaluates (place_ahead first) first.behind place h.at) (λ measures a.
       let m = measures.value in
       then_at P (λ (r : Sweep). Unit {0}) (Reads P given AnyValue c) (sweep_of at m.start_angle m.end_angle m.delta_angle) _
-          (sweep_at P given at m.start_angle m.end_angle m.delta_angle p) (λ sweep _.
+      (sweep_at P given at m.start_angle m.end_angle m.delta_angle p) (λ sweep _.
       (tt, looked_then P given c first measures.behind h a.1))))
       place)
 
@@ -283,8 +287,8 @@ module _ (P : ℕ → Type 0) (given : Given) (begin : P 0) (evaluates : Evaluat
   unfolding mesh_drawn
   mesh_at origin mesh end at units path p =
       then_at P (λ (g : Grid). units ≤ g.units) (λ (drawn : Meshed). units ≤ drawn.units) (grid_pieces mesh.matrix (current_point origin path)
-          end.point mesh.xstep mesh.ystep given.budget at units) _ (grid_stands P at p mesh.matrix (current_point origin path) end.point mesh.xstep
-          mesh.ystep given.budget units) (λ grid k. k)
+      end.point mesh.xstep mesh.ystep given.budget at units) _ (grid_stands P at p mesh.matrix (current_point origin path) end.point mesh.xstep
+      mesh.ystep given.budget units) (λ grid k. k)
 
   grid_to_at : (at : ℕ) (m : Measures) (end : Goal) (c : Configuration) → P at → At P given c → Stands P (To c) (grid_to given.budget at m end c)
   unfolding grid_to
@@ -293,7 +297,7 @@ module _ (P : ℕ → Type 0) (given : Given) (begin : P 0) (evaluates : Evaluat
       then_at P (λ (n : ℤ). Unit {0}) (To c) (length_upward m at m.ystep) _ (length_at P given m.y at m.ystep p) (λ ystep _.
       let mesh : Mesh = record { matrix = m.matrix; xstep = xstep; ystep = ystep } in
       then_at P (λ (drawn : Meshed). c.picture.units ≤ drawn.units) (To c) (mesh_drawn (origin_of c.env) mesh end given.budget at c.picture.units
-          c.picture.path) _ (mesh_at (origin_of c.env) mesh end at c.picture.units c.picture.path p) (λ drawn k.
+      c.picture.path) _ (mesh_at (origin_of c.env) mesh end at c.picture.units c.picture.path p) (λ drawn k.
       record { fell = record { end = refl; units = k; work_falls = omega arith }; at = record { env = h.env; rest = h.rest; end = h.end } })))
 
   grid_by_at : (at : ℕ) (m : Measures) (c : Configuration) → P at → At P given c → Stands P (To c) (grid_by given at m c)

@@ -44,20 +44,20 @@ module _ (P : ℕ → Type 0) (given : Given) (begin : P 0) (evaluates : Evaluat
   unfolding movement
   movement_at c first h =
       then_at P (Gains P given (WrittenAt P given) c) (Advances P given c) (coordinate_from given first) _ (coordinate_from_at P given c first
-          h) (λ written a.
+      h) (λ written a.
       then_at P (Reads P given AnyValue written.behind) (Advances P given c) (goal_of given written.value written.behind) _
-          (goal_at P given evaluates written.value written.behind a.0 a.1.at) (λ to b.
+      (goal_at P given evaluates written.value written.behind a.0 a.1.at) (λ to b.
       same_advances P given (moved_to (origin_of to.behind.env) to.value to.behind.picture.path) c to.behind (advances_then P given c written.behind
-          to.behind a.1 b.1)))
+      to.behind a.1 b.1)))
 
   operation_from_at : (c : Configuration) (first : Lookahead) → Looks P given c first → Stands P (Advances P given c) (operation_from given first)
   unfolding operation_from
   operation_from_at c first h =
       then_at P (Gains P given AnyValue c) (Advances P given c) (word_from given Operations first) _ (word_from_at P given Operations c first h)
-          (λ word a.
+      (λ word a.
       weaker_at P (Comes P given word.behind) (Advances P given c) (operation given word.value (place_ahead first) word.behind)
-          (λ e b. advances_then P given c word.behind e a.1 b) (operation_at P given begin evaluates word.value (place_ahead first) word.behind
-          (place_at P first.behind.list.end first.token h.at.end h.token) a.1.at))
+      (λ e b. advances_then P given c word.behind e a.1 b) (operation_at P given begin evaluates word.value (place_ahead first) word.behind
+      (place_at P first.behind.list.end first.token h.at.end h.token) a.1.at))
 
   plain_by : (c : Configuration) (token : Option Tok) (d : Configuration) → Looks P given c (lookahead token d)
       → Stands P (Advances P given c) (plain_part given (lookahead token d))
@@ -67,9 +67,9 @@ module _ (P : ℕ → Type 0) (given : Given) (begin : P 0) (evaluates : Evaluat
       let first = lookahead (Some t) d in
       if_at P (Advances P given c) (is_char left_bracket t.kind) (options given t.at d) _
       (weaker_at P (Comes P given d) (Advances P given c) (options given t.at d) (λ e b. took_then P given c t d e h b)
-          (options_at P given begin evaluates t.at d h.token h.at))
+      (options_at P given begin evaluates t.at d h.token h.at))
       (if_at P (Advances P given c) (begins_coordinate t.kind) (movement given first) (operation_from given first) (movement_at c first h)
-          (operation_from_at c first h))
+      (operation_from_at c first h))
 
   -- a part of a path leaves less
   abbrev pub PartAt : Configuration → PathFlow → Type 0
@@ -86,7 +86,7 @@ module _ (P : ℕ → Type 0) (given : Given) (begin : P 0) (evaluates : Evaluat
         then_at P (λ (inside : Env). EnvAt P c.env → EnvAt P inside) (Comes P given c) (level at c.env) _ (level_at P given at c.env p) (λ inside l.
         let d = with_env inside c in
         then_at P (Comes P given d) (Comes P given c) (rec (stretch openers.Group d)) _ (moves (stretch openers.Group d)
-            (record { env = l h.env; rest = h.rest; end = h.end })) (λ e m.
+        (record { env = l h.env; rest = h.rest; end = h.end })) (λ e m.
         record { fell = m.fell; at = record { env = h.env; rest = m.at.rest; end = m.at.end } }))
 
     part_by : (opener : PathOpener) (c : Configuration) (token : Option Tok) (d : Configuration) → Looks P given c (lookahead token d)
@@ -98,7 +98,7 @@ module _ (P : ℕ → Type 0) (given : Given) (begin : P 0) (evaluates : Evaluat
         if_at P (PartAt c) (ends opener t.kind) (Ok (Finishes d)) _ (looked P given c first h)
         (if_at P (PartAt c) (is_open t.kind) (goes_on (path_group given rec t.at d)) (goes_on (plain_part given first))
         (on_at c (path_group given rec t.at d) (weaker_at P (Comes P given d) (Advances P given c) (path_group given rec t.at d)
-            (λ e b. took_then P given c t d e h b) (group_at t.at d h.token h.at)))
+        (λ e b. took_then P given c t d e h b) (group_at t.at d h.token h.at)))
         (on_at c (plain_part given first) (plain_by c (Some t) d h)))
 
     pub part_at : (opener : PathOpener) (c : Configuration) (first : Lookahead) → Looks P given c first
@@ -109,14 +109,14 @@ module _ (P : ℕ → Type 0) (given : Given) (begin : P 0) (evaluates : Evaluat
         → Stands P (Comes P given c) (go_on (λ next. rec (stretch opener next)) part)
     follows opener c (Goes_on d) a =
         weaker_at P (Comes P given d) (Comes P given c) (rec (stretch opener d)) (λ e b. comes_then P given c d e (comes P given c d a) b)
-            (moves (stretch opener d) a.at)
+        (moves (stretch opener d) a.at)
     follows opener c (Finishes d) a = a
 
     step_at : (s : Stretch) → At P given s.start → Stands P (Comes P given s.start) (operations_step given rec s)
     step_at s k =
         then_at P (Looks P given s.start) (Comes P given s.start) (ahead_of given s.start) _ (ahead_at P given s.start k) (λ first a.
         then_at P (PartAt s.start) (Comes P given s.start) (part_from given rec s.opener first) _ (part_at s.opener s.start first a)
-            (λ part b. follows s.opener s.start part b))
+        (λ part b. follows s.opener s.start part b))
 
   pub operations_at : (s : Stretch) → At P given s.start → Stands P (Comes P given s.start) (operations given s)
   unfolding operations
@@ -126,8 +126,11 @@ module _ (P : ℕ → Type 0) (given : Given) (begin : P 0) (evaluates : Evaluat
   -- what was drawn is there
   there : (c e : Configuration) (pic : Picture) → pic.units ≡ e.picture.units → Comes P given c e → Comes P given c (record e { picture = pic })
   there c e pic same a = record {
-    fell = record { end = a.fell.end; units = (let u = a.fell.units in omega (arith, same));
-        work_falls = (let u = a.fell.work_falls in omega (arith, same)) };
+    fell = record {
+      end = a.fell.end;
+      units = (let u = a.fell.units in omega (arith, same));
+      work_falls = (let u = a.fell.work_falls in omega (arith, same));
+    };
     at = record { env = a.at.env; rest = a.at.rest; end = a.at.end };
   }
 

@@ -45,19 +45,19 @@ module _ (P : ℕ → Type 0) (given : Given) where
     unfolding coordinate_or_node
     coordinate_or_at c first h =
         if_at P (Gains P given (WrittenAt P given) c) (is_there begins_coordinate first.token) (coordinate_from given first)
-            (word_from given Nodes first >>= λ word. fault Unbuilt (place_ahead first))
+        (word_from given Nodes first >>= λ word. fault Unbuilt (place_ahead first))
         (coordinate_from_at P given c first h)
         (then_at P (Gains P given AnyValue c) (Gains P given (WrittenAt P given) c) (word_from given Nodes first) _ (word_from_at P given Nodes c
-            first h) (λ word k. place_at P first.behind.list.end first.token h.at.end h.token))
+        first h) (λ word k. place_at P first.behind.list.end first.token h.at.end h.token))
 
     pub goal_ahead_at : (c : Configuration) → At P given c → Stands P (Reads P given AnyValue c) (goal_ahead given c)
     unfolding goal_ahead
     goal_ahead_at c h =
         then_at P (Looks P given c) (Reads P given AnyValue c) (ahead_of given c) _ (ahead_at P given c h) (λ first k.
         then_at P (Gains P given (WrittenAt P given) c) (Reads P given AnyValue c) (coordinate_or_node given first) _
-            (coordinate_or_at c first k) (λ w a.
+        (coordinate_or_at c first k) (λ w a.
         weaker_at P (Reads P given AnyValue w.behind) (Reads P given AnyValue c) (goal_of given w.value w.behind)
-            (λ r b. (tt, comes_then P given c w.behind r.behind (comes P given c w.behind a.1) b.1)) (goal_at w.value w.behind a.0 a.1.at)))
+        (λ r b. (tt, comes_then P given c w.behind r.behind (comes P given c w.behind a.1) b.1)) (goal_at w.value w.behind a.0 a.1.at)))
 
     target_by_at : (at : ℕ) (word : PathWord) (c d : Configuration) → P at → Comes P given c d
         → Stands P (Reads P given TargetAt c) (target_by given at word d)
@@ -83,8 +83,8 @@ module _ (P : ℕ → Type 0) (given : Given) where
         (coordinate_from given first >>= λ written. Ok (reached (A_coordinate written.value) written.behind))
         (word_from given Targets first >>= λ word. target_by given (place_ahead first) word.value word.behind)
         (then_at P (Gains P given (WrittenAt P given) c) (Reads P given TargetAt c) (coordinate_from given first) _ (coordinate_from_at P given c
-            first k) (λ w a. (a.0, comes P given c w.behind a.1)))
+        first k) (λ w a. (a.0, comes P given c w.behind a.1)))
         (then_at P (Gains P given AnyValue c) (Reads P given TargetAt c) (word_from given Targets first) _ (word_from_at P given Targets c first k)
-            (λ word a.
+        (λ word a.
         target_by_at (place_ahead first) word.value c word.behind (place_at P first.behind.list.end first.token k.at.end k.token)
-            (comes P given c word.behind a.1))))
+        (comes P given c word.behind a.1))))

@@ -63,8 +63,11 @@ appended_pieces_trace old new (Err f) pieces e h = absurd (true≢false (sym e))
 -- a path to which such pieces were added
 added_pieces_trace : (old new : List Seg) (pieces : Result (List Seg) AffFault) → BeginsOrNone old → IfOk pieces BeginsOrNone
     → with_pieces_behind old pieces ≡ Ok new → IsTraced new None
-added_pieces_trace old new (Ok segs) h k e = record { first = subst BeginsOrNone (ap (λ r. result_unwrap_or r []) e) (joined_pieces_begin old segs h
-    k); begun = tt }
+added_pieces_trace old new (Ok segs) h k e = record {
+  first = subst BeginsOrNone (ap (λ r. result_unwrap_or r []) e) (joined_pieces_begin old segs h
+      k);
+  begun = tt;
+}
 added_pieces_trace old new (Err f) h k e = absurd (true≢false (sym (ap is_ok e)))
 
 pub circle_added : (old new : List Seg) (m : Matrix) (c : Point) (rx ry : ℤ) → BeginsOrNone old

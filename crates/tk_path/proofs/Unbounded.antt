@@ -57,7 +57,7 @@ module _ (given : Given) where
     part_alike None d le = refl
     part_alike (Some t) d le =
         ap (λ (r : Answer PathFlow). if ends s.opener t.kind then Ok (Finishes d) else (if is_open t.kind then r
-            else goes_on (plain_part given (lookahead (Some t) d))))
+        else goes_on (plain_part given (lookahead (Some t) d))))
         (ap goes_on (group_alike t.at d (omega arith)))
 
     follow_alike : (c : Configuration) → work_at given c ≤ stretch_work given s → (part : PathFlow) → Leaves c part
@@ -69,9 +69,9 @@ module _ (given : Given) where
     step_alike =
         then_alike (Looks Any given s.start) (ahead_of given s.start) _ _ (looks_any s.start) (λ first h.
         ap (λ (r : Answer PathFlow). r >>= go_on (λ next. f (stretch s.opener next)))
-            (part_alike first.token first.behind (let a = h.takes.work_falls in omega arith))
+        (part_alike first.token first.behind (let a = h.takes.work_falls in omega arith))
         ∙ then_alike (Leaves s.start) (part_from given (operations given) s.opener first) _ _ (part_leaves s.opener s.start first h)
-            (λ part k. follow_alike s.start (omega arith) part k))
+        (λ part k. follow_alike s.start (omega arith) part k))
 
   operations_pinned : IsPinned (stretch_work given) (fault Budget 0) (operations_step given)
   unfolding operations

@@ -30,7 +30,7 @@ module _ (P : ℕ → Type 0) (given : Given) where
   letters_at at (letter ∷ letters) c p h =
       then_at P (Comes P given c) (Comes P given c) (behind_letter given at letter c) _ (letter_at at letter c p h) (λ d a.
       weaker_at P (Comes P given d) (Comes P given c) (behind_letters given at letters d) (λ e b. comes_then P given c d e a b)
-          (letters_at at letters d p a.at))
+      (letters_at at letters d p a.at))
 
   rest_at : (at : ℕ) (rows : List (List ℕ × PathWord)) (c : Configuration) → P at → At P given c
       → Stands P (Reads P given AnyValue c) (rest_of_word given at rows c)
@@ -39,11 +39,11 @@ module _ (P : ℕ → Type 0) (given : Given) where
   rest_at at (row ∷ rows) c p h =
       then_at P (Looks P given c) (Reads P given AnyValue c) (token_ahead given c) _ (token_at P given c h) (λ second k.
       then_at P (λ (n : ℕ). Unit {0}) (Reads P given AnyValue c) (or_fault (letter_there second.token) PathSyntax at) _
-          (some_at P (letter_there second.token) PathSyntax at p) (λ letter _.
+      (some_at P (letter_there second.token) PathSyntax at p) (λ letter _.
       then_at P (λ (r : List ℕ × PathWord). Unit {0}) (Reads P given AnyValue c) (or_fault (slice_get (going_on letter (row ∷ rows)) 0) PathSyntax at)
-          _ (some_at P (slice_get (going_on letter (row ∷ rows)) 0) PathSyntax at p) (λ found _.
+      _ (some_at P (slice_get (going_on letter (row ∷ rows)) 0) PathSyntax at p) (λ found _.
       then_at P (Comes P given second.behind) (Reads P given AnyValue c) (behind_letters given at found.0 second.behind) _
-          (letters_at at found.0 second.behind p k.at) (λ e a.
+      (letters_at at found.0 second.behind p k.at) (λ e a.
       (tt, looked_then P given c second e k a)))))
 
   from_at : (kind : Words) (c : Configuration) (token : Option Tok) (d : Configuration) → Looks P given c (lookahead token d)
@@ -52,9 +52,9 @@ module _ (P : ℕ → Type 0) (given : Given) where
   from_at kind c None d h = h.at.end
   from_at kind c (Some t) d h =
       then_at P (λ (n : ℕ). Unit {0}) (Gains P given AnyValue c) (or_fault (letter_there (Some t)) PathSyntax t.at) _
-          (some_at P (letter_there (Some t)) PathSyntax t.at h.token) (λ letter _.
+      (some_at P (letter_there (Some t)) PathSyntax t.at h.token) (λ letter _.
       weaker_at P (Reads P given AnyValue d) (Gains P given AnyValue c) (rest_of_word given t.at (going_on letter (word_table kind)) d)
-          (λ r a. (tt, took_then P given c t d r.behind h a.1)) (rest_at t.at (going_on letter (word_table kind)) d h.token h.at))
+      (λ r a. (tt, took_then P given c t d r.behind h a.1)) (rest_at t.at (going_on letter (word_table kind)) d h.token h.at))
 
   pub word_from_at : (kind : Words) (c : Configuration) (first : Lookahead) → Looks P given c first
       → Stands P (Gains P given AnyValue c) (word_from given kind first)
@@ -72,5 +72,5 @@ module _ (P : ℕ → Type 0) (given : Given) where
       then_at P (Looks P given c) (Comes P given c) (ahead_of given c) _ (ahead_at P given c h) (λ first k.
       then_at P (Advances P given c) (Comes P given c) (must_be (is_char letter) first) _ (must_at P given (is_char letter) c first k) (λ inside a.
       weaker_at P (Comes P given inside) (Comes P given c) (behind_letters given (place_ahead first) letters inside) (λ e b. comes_then P given c
-          inside e (comes P given c inside a) b) (letters_at (place_ahead first) letters inside (place_at P first.behind.list.end first.token k.at.end
-          k.token) a.at)))
+      inside e (comes P given c inside a) b) (letters_at (place_ahead first) letters inside (place_at P first.behind.list.end first.token k.at.end
+      k.token) a.at)))

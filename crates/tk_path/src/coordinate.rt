@@ -149,7 +149,7 @@ impl Drawer {
         ensures gives { (path : ACurrentPath) (rest : Unread)
             → Gives (λ point. reached_at point self.new path rest) result
             (spec.coordinate_point (given_to self.old) from (written_of written)
-              (configuration_of self.old path rest)) }
+            (configuration_of self.old path rest)) }
         ensures pays { OnOk result (OnlyPays self.old self.new) }
     {
         let Written { sign, at, text } = written;

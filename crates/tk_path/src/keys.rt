@@ -75,7 +75,7 @@ impl Drawer {
         ensures gives { (ev : Evaluation) → IsEvaluation ev → (path : ACurrentPath) (rest : Unread)
             → Gives (λ _. configuration_of self.new path rest) result
             (keys.with_keys (given_of ev self.old.state) at (texts.tokens_of at text.now)
-              (configuration_of self.old path rest)) }
+            (configuration_of self.old path rest)) }
         ensures kept { OnOk result (KeepsDrawn self.old self.new) }
     {
         self.state.run_written(text, at)?;
@@ -167,7 +167,7 @@ impl Drawer {
         ensures gives { (ev : Evaluation) → IsEvaluation ev → (path : ACurrentPath)
             → Gives (λ _. configuration_of self.new path input.new) result
             (keys.with_style_and_options (given_of ev self.old.state) at (style_name style)
-              (configuration_of self.old path input.old)) }
+            (configuration_of self.old path input.old)) }
         ensures kept { OnOk result (KeepsDrawn self.old self.new) }
     {
         self.run_style(style, at)?;

@@ -101,7 +101,7 @@ impl Drawer {
     fn go_to(&mut self, path: &mut CurrentPath, way: Way, written: Written) -> Result<(), Refusal>
         ensures gives { (rest : Unread) → Gives (λ _. configuration_of self.new path.new rest) result
             (spec.way_to (given_to self.old) (way_of way) (A_coordinate (written_of written))
-              (configuration_of self.old path.old rest)) }
+            (configuration_of self.old path.old rest)) }
         ensures kept { OnOk result (KeepsDrawn self.old self.new) }
     {
         let origin = self.origin();
@@ -191,7 +191,7 @@ impl Drawer {
         ensures gives { (rest : Unread)
             → Gives (λ control. reached_at (control_of control) self.new path.now rest) result
             (spec.second_control (given_to self.old) (written_of written) written.sign
-              (configuration_of self.old path.now rest)) }
+            (configuration_of self.old path.now rest)) }
         ensures pays { OnOk result (OnlyPays self.old self.new) }
     {
         match written.sign {

@@ -112,7 +112,7 @@ impl Drawer {
     ) -> Result<Flow, Refusal>
         ensures gives { Gives (path_flow_of self.new path.new input.new) result
             (paths.part_from (given_to self.old) (paths.operations (given_to self.old)) opener
-              (lookahead_of first self.old path.old input.old)) }
+            (lookahead_of first self.old path.old input.old)) }
         ensures kept { OnOk result (KeepsDrawn self.old self.new) }
     {
         if opener.ends_at(first) {
@@ -138,7 +138,7 @@ impl Drawer {
     ) -> Result<(), Refusal>
         ensures gives { Gives (λ _. configuration_of self.new path.new input.new) result
             (paths.path_group (given_to self.old) (paths.operations (given_to self.old)) at
-              (configuration_of self.old path.old input.old)) }
+            (configuration_of self.old path.old input.old)) }
         ensures kept { OnOk result (KeepsDrawn self.old self.new) }
     {
         self.state.open(at)?;

@@ -302,7 +302,7 @@ impl Drawer {
     ) -> Result<PathWord, Refusal>
         ensures gives { (path : ACurrentPath) → Gives (λ word. reached_at word self.new path input.new) result
             (spec.rest_of_word (given_to self.old) at (spec.going_on first (spec.word_table words))
-              (configuration_of self.old path input.old)) }
+            (configuration_of self.old path input.old)) }
         ensures pays { OnOk result (OnlyPays self.old self.new) }
     {
         if !words.begin(first) {

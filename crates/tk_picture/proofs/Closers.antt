@@ -41,13 +41,13 @@ module _ (rest : List Tok) (t : Tok) (ts : List Tok) (is : rest ≡ t ∷ ts) wh
   pub closer_closes : (depth less : ℕ) → depth ≡ suc less → t.kind ≡ Close → closer_in depth rest ≡ closer_in less ts
   closer_closes depth less e k =
       goes depth less (ap (λ (d : ℕ). d == 0 && is_close t.kind) e ∙ ap (λ (b : Bool). b && is_close t.kind) (eqb-suc-zero less))
-          (ap (depth_after depth) k ∙ (let same : depth - 1 ≡ less = omega arith in same))
+      (ap (depth_after depth) k ∙ (let same : depth - 1 ≡ less = omega arith in same))
 
   pub closer_found : (depth : ℕ) → depth ≡ 0 → t.kind ≡ Close → closer_in depth rest ≡ Some t
   closer_found depth e k =
       ap (closer_in depth) is
       ∙ ap front_of (found_here (begins is_close) depth t ts (ap (λ (d : ℕ). d == 0 && is_close t.kind) e
-          ∙ ap (λ (k : Kind). 0 == 0 && is_close k) k))
+      ∙ ap (λ (k : Kind). 0 == 0 && is_close k) k))
 
   other_kind : (k : Kind) → (k ≡ Close → ⊥) → is_close k ≡ false
   other_kind Close h = absurd (h refl)

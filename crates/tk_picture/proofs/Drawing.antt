@@ -34,9 +34,9 @@ module _ (given now : Given) (at : ℕ) (list inside : Unread) (new env : Env) (
   unfolding picture_behind
   picture_starts =
       then_is (after_name Unbuilt (codes "tikzpicture") list) (λ u. level at (first_env given) >>= λ e. inner given (configuration e first_picture u)
-          >>= last) inside name
+      >>= last) inside name
       ∙ then_is (level at (first_env given)) (λ e. inner given (configuration e first_picture inside) >>= last) env
-          (ap (level at) (sym first) ∙ within)
+      (ap (level at) (sym first) ∙ within)
 
   same_start : (r : Answer Progress) → inner now (configuration env pic inside) ≡ r → inner given (configuration env first_picture inside) ≡ r
   same_start r h = ap (λ (start : Picture). inner given (configuration env start inside)) (sym none)

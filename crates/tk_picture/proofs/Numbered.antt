@@ -26,6 +26,6 @@ module _ (names : List (List ℕ)) (once : EachOnce names) where
   numbers_back [] h = refl
   numbers_back (t ∷ ts) h =
       let first : tok_of names (token_of names t) ≡ t = ap (λ (k : Kind). (let u : Tok = record { kind = k; at = t.at } in u))
-              (kind_back t.kind (All-head (λ (t : Tok). IsWordIn names t.kind) t ts h)) in
+      (kind_back t.kind (All-head (λ (t : Tok). IsWordIn names t.kind) t ts h)) in
       let more = numbers_back ts (All-tail (λ (t : Tok). IsWordIn names t.kind) t ts h) in
       cc

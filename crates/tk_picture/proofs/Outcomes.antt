@@ -37,9 +37,9 @@ given_first : (names : List (List ℕ)) (budget : ℕ) (font : FontUnits) (state
     → given_of evaluated state ≡ record { names = known_words names; evaluate = evaluated; font = font; budget = budget }
 given_first names budget font state begun =
     ap (λ (ns : List (List ℕ)). (let g : Given = record { names = ns; evaluate = evaluated; font = state.font; budget = state.budget } in g))
-        begun.names
+    begun.names
     ∙ ap (λ (f : FontUnits). (let g : Given = record { names = known_words names; evaluate = evaluated; font = f; budget = state.budget } in g))
-        begun.font
+    begun.font
     ∙ ap (λ (b : ℕ). (let g : Given = record { names = known_words names; evaluate = evaluated; font = font; budget = b } in g)) begun.budget
 
 -- the code's run is over what is given
@@ -81,10 +81,10 @@ module _ (budget : ℕ) (source : List ℕ) where
       where
         by : (ws : List (List ℕ)) → names ≡ ws
             → document (given_words ws budget) (unread (map (tok_of ws) (map (token_of names) toks)) (length source))
-                ≡ document (given_words names budget) (unread toks (length source))
+            ≡ document (given_words names budget) (unread toks (length source))
         by ws e =
             ap (λ (vs : List (List ℕ)). document (given_words vs budget) (unread (map (tok_of vs) (map (token_of names) toks)) (length source)))
-                (sym e)
+            (sym e)
             ∙ ap (λ (ts : List Tok). document (given_words names budget) (unread ts (length source))) same_toks
 
     outcome : IsOutcome budget source (document (given_words names budget) (unread toks (length source)))
@@ -105,8 +105,8 @@ module _ (budget : ℕ) (source : List ℕ) where
     fault_at : (f : Fault) → document (given_words names budget) (unread toks (length source)) ≡ Err f → IsPlace source f.at
     fault_at f h = told (document (given_words names budget) (unread toks (length source))) h
         (document_at (IsPlace source) (given_words names budget) (first_place source (map (token_of names) toks) lexed) (evaluates_at (IsPlace source)
-            (known_words names) budget) (unread toks (length source)) (tok_places toks (token_places source (map (token_of names) toks) lexed))
-            (end_place source (map (token_of names) toks) lexed))
+        (known_words names) budget) (unread toks (length source)) (tok_places toks (token_places source (map (token_of names) toks) lexed))
+        (end_place source (map (token_of names) toks) lexed))
       where
         told : (m : Answer Compiled) → m ≡ Err f → Stands (IsPlace source) (λ _. Unit {0}) m → IsPlace source f.at
         told (Ok c) e k = absurd cc

@@ -20,5 +20,8 @@ module _ (P : ℕ → Type 0) (given : Given) where
     pub end : P p.list.end
 
   pub then_returns : (c d : Configuration) (p : Progress) → Comes P given c d → Returns d p → Returns c p
-  then_returns c d p a b = record { fell = falls_then given.budget (stream_at c) (stream_at d) (stream_back p) a.fell b.fell;
-      rest = b.rest; end = b.end }
+  then_returns c d p a b = record {
+    fell = falls_then given.budget (stream_at c) (stream_at d) (stream_back p) a.fell b.fell;
+    rest = b.rest;
+    end = b.end;
+  }

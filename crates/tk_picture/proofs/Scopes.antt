@@ -28,7 +28,7 @@ module _ (given : Given) (t : Tok) (opener : BlockOpener) (c : Configuration) (l
   scope_goes : command given (commands given) Begins_environment t opener c ≡ (inner given (configuration inside c.picture list) >>= behind)
   scope_goes =
       then_is (named_or UnknownCommand t.at (after_name UnknownCommand (codes "scope") c.list)) (λ list. level t.at c.env
-          >>= λ inside. inner given (configuration inside c.picture list) >>= behind) list named
+      >>= λ inside. inner given (configuration inside c.picture list) >>= behind) list named
       ∙ then_is (level t.at c.env) (λ inside. inner given (configuration inside c.picture list) >>= behind) inside within
 
   module _ (later : Given) (same : later ≡ given) (d : Configuration) (is : d ≡ configuration inside c.picture list) where

@@ -40,8 +40,11 @@ token_places source ts l = all_places source ts (before_tokens source (Ok ts) l)
 
 -- and its end
 pub end_place : (source : List ℕ) (ts : List Token) → Lexes source (Ok ts) → IsPlace source (length source)
-end_place source ts l = record { within = omega arith; text = subst IsUtf8 (sym (take_all (length source) source (omega arith)))
-    (before_tokens source (Ok ts) l).0 }
+end_place source ts l = record {
+  within = omega arith;
+  text = subst IsUtf8 (sym (take_all (length source) source (omega arith)))
+      (before_tokens source (Ok ts) l).0;
+}
 
 -- and its beginning
 pub first_place : (source : List ℕ) (ts : List Token) → Lexes source (Ok ts) → IsPlace source 0

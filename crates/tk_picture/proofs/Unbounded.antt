@@ -55,13 +55,13 @@ module _ (given : Given) where
     command_alike Closes_group t (A_group at) c less = refl
     command_alike Begins_environment t opener c less =
         then_alike (Within Any (length c.list.rest) c.list.end) (named_or UnknownCommand t.at (after_name UnknownCommand (codes "scope") c.list)) _ _
-            (ok_at Any (Within Any (length c.list.rest) c.list.end) _ (moves.named_at Any given tt (any_evaluates given) UnknownCommand t.at
-            (codes "scope") c.list tt (any_list c.list.rest) tt)) (λ list w.
+        (ok_at Any (Within Any (length c.list.rest) c.list.end) _ (moves.named_at Any given tt (any_evaluates given) UnknownCommand t.at
+        (codes "scope") c.list tt (any_list c.list.rest) tt)) (λ list w.
         then_alike (λ (e : Env). Unit {0}) (level t.at c.env) _ _ (any_value (level t.at c.env)) (λ inside _.
         let d = configuration inside c.picture list in
         ap (λ (r : Answer Progress). r >>= λ p. Ok (Goes_on (with_progress c p)))
         (then_alike (Comes Any given d) (with_style_and_options given t.at (codes "every scope") d) _ _ (ok_at Any (Comes Any given d) _
-            (styled_at Any given tt (any_evaluates given) t.at (codes "every scope") d tt (any_at given d))) (λ begun m.
+        (styled_at Any given tt (any_evaluates given) t.at (codes "every scope") d tt (any_at given d))) (λ begun m.
         alike (block (A_scope t.at) begun) (let a = m.fell.work_falls in let s = w.short in omega arith)))))
     command_alike Ends_environment t opener c less = refl
     command_alike Begins_later t opener c less = refl
@@ -74,20 +74,20 @@ module _ (given : Given) where
 
     at_alike : (token : Option Tok) (c : Configuration) → work_at given c + length (option_to_list token) ≤ block_work given b
         → (command_at given f b.opener token c >>= go_on (λ next. f (block b.opener next))) ≡ (command_at given (commands given) b.opener token c
-            >>= go_on (λ next. commands given (block b.opener next)))
+        >>= go_on (λ next. commands given (block b.opener next)))
     at_alike None c le = refl
     at_alike (Some t) c le =
         let less : work_at given c < block_work given b = omega arith in
         ap (λ (r : Answer CommandFlow). r >>= go_on (λ next. f (block b.opener next))) (command_alike (beginning_of given.names t.kind) t
-            b.opener c less)
+        b.opener c less)
         ∙ then_alike (Falls c) (command_at given (commands given) b.opener (Some t) c) _ _ (command_falls b.opener (Some t) c)
-            (λ part h. next_alike c less part h)
+        (λ part h. next_alike c less part h)
 
   commands_pinned : IsPinned (block_work given) (fault Budget 0) (commands_step given)
   unfolding commands
   commands_pinned f b alike =
       then_alike (Looks Any given b.start) (ahead_of given b.start) _ _ (looks_any given b.start) (λ first h. at_alike f b alike first.token
-          first.behind (let a = h.takes.work_falls in omega arith))
+      first.behind (let a = h.takes.work_falls in omega arith))
 
   pub commands_are : (b : Block) → commands given b ≡ commands_step given (commands given) b
   unfolding commands

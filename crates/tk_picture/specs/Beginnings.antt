@@ -10,8 +10,14 @@ use Rattle.tk_path.specs.Paths.{path}
 
 -- nothing is drawn or filled
 abbrev pub unpainted : Env → Env
-unpainted env = record env { graphics = record env.graphics { look = record env.graphics.look { draw_on = false;
-    fill_on = false } } }
+unpainted env = record env {
+  graphics = record env.graphics {
+    look = record env.graphics.look {
+      draw_on = false;
+      fill_on = false;
+    };
+  };
+}
 
 -- the run goes on with that
 abbrev pub plain : Configuration → Configuration

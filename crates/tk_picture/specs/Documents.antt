@@ -28,8 +28,15 @@ no_frame = record { left = pos 0; bottom = pos 0; right = pos 0; top = pos 0 }
 
 -- the drawing of a picture, in which the font is `monospace` of 10pt, and the units paid
 abbrev pub compiled : Picture → Compiled
-compiled pic = record { drawing = record { frame = unwrap_or pic.frame no_frame; family = codes "monospace";
-    size = pos 655360; items = pic.items }; units = pic.units }
+compiled pic = record {
+  drawing = record {
+    frame = unwrap_or pic.frame no_frame;
+    family = codes "monospace";
+    size = pos 655360;
+    items = pic.items;
+  };
+  units = pic.units;
+}
 
 -- nothing is left but Spaces
 abbrev pub nothing_after : Compiled → List Tok → Answer Compiled

@@ -89,7 +89,7 @@ fn command_at(
     requires sound { IsSound drawer.old }
     ensures gives { Gives (flow_of drawer.new input.new) result
         (command_at (given_to drawer.old) (commands (given_to drawer.old)) (opener_of opener) first
-          (place_of_run drawer.old input.old)) }
+        (place_of_run drawer.old input.old)) }
     ensures sound { OnOk result (IsSound drawer.new) }
     ensures kept { OnOk result (Keeps drawer.old.state drawer.new.state) }
 {
@@ -111,7 +111,7 @@ fn command(
     requires sound { IsSound drawer.old }
     ensures gives { Gives (flow_of drawer.new input.new) result
         (command (given_to drawer.old) (commands (given_to drawer.old)) (begun_of beginning) first (opener_of opener)
-          (place_of_run drawer.old input.old)) }
+        (place_of_run drawer.old input.old)) }
     ensures sound { OnOk result (IsSound drawer.new) }
     ensures kept { OnOk result (Keeps drawer.old.state drawer.new.state) }
 {
@@ -138,7 +138,7 @@ fn scope(drawer: &mut Drawer, input: &mut Input, first: Tok) -> Result<Flow, Ref
     requires sound { IsSound drawer.old }
     ensures gives { (opener : AnOpener) → Gives (flow_of drawer.new input.new) result
         (command (given_to drawer.old) (commands (given_to drawer.old)) Begins_environment first opener
-          (place_of_run drawer.old input.old)) }
+        (place_of_run drawer.old input.old)) }
     ensures sound { OnOk result (IsSound drawer.new) }
     ensures kept { OnOk result (Keeps drawer.old.state drawer.new.state) }
 {
@@ -165,7 +165,7 @@ pub(crate) fn styled_commands(
     requires sound { IsSound drawer.old }
     ensures gives { Gives (λ _. progress_of drawer.new input.new) result
         (styled_commands (given_to drawer.old) (commands (given_to drawer.old)) (style_name style) (opener_of opener)
-          (place_of_run drawer.old input.old)) }
+        (place_of_run drawer.old input.old)) }
     ensures sound { OnOk result (IsSound drawer.new) }
     ensures kept { OnOk result (Keeps drawer.old.state drawer.new.state) }
 {
@@ -189,7 +189,7 @@ fn group(drawer: &mut Drawer, input: &mut Input, first: Tok) -> Result<Flow, Ref
     requires sound { IsSound drawer.old }
     ensures gives { (opener : AnOpener) → Gives (flow_of drawer.new input.new) result
         (command (given_to drawer.old) (commands (given_to drawer.old)) Opens_group first opener
-          (place_of_run drawer.old input.old)) }
+        (place_of_run drawer.old input.old)) }
     ensures sound { OnOk result (IsSound drawer.new) }
     ensures kept { OnOk result (Keeps drawer.old.state drawer.new.state) }
 {
@@ -209,7 +209,7 @@ fn draw_path(
     requires sound { IsSound drawer.old }
     ensures gives { (opener : AnOpener) → Gives (flow_of drawer.new input.new) result
         (command (given_to drawer.old) (commands (given_to drawer.old)) (Begins_path keys.now) first opener
-          (place_of_run drawer.old input.old)) }
+        (place_of_run drawer.old input.old)) }
     ensures sound { OnOk result (IsSound drawer.new) }
     ensures kept { OnOk result (Keeps drawer.old.state drawer.new.state) }
 {
@@ -258,7 +258,7 @@ fn set(drawer: &mut Drawer, input: &mut Input, first: Tok) -> Result<Flow, Refus
     requires sound { IsSound drawer.old }
     ensures gives { (opener : AnOpener) → Gives (flow_of drawer.new input.new) result
         (command (given_to drawer.old) (commands (given_to drawer.old)) Begins_other first opener
-          (place_of_run drawer.old input.old)) }
+        (place_of_run drawer.old input.old)) }
     ensures sound { OnOk result (IsSound drawer.new) }
     ensures kept { OnOk result (Keeps drawer.old.state drawer.new.state) }
 {

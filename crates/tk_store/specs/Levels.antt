@@ -45,8 +45,12 @@ pub record CountsOne (old new : Levels) : Type 0 where
 -- a word has a macro at the last level; all else stays
 pub record SetsMacro (old new : Levels) (word : ℕ) (value : Macro) : Type 0 where
   pub levels : new
-      ≡ record old { top = record old.top { macros = map.insert old.top.macros word value;
-          settings = new.top.settings } }
+      ≡ record old {
+        top = record old.top {
+          macros = map.insert old.top.macros word value;
+          settings = new.top.settings;
+        };
+      }
   pub settings : CountsOne old new
 
 -- a key has an entry at the last level; all else stays

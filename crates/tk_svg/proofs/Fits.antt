@@ -40,8 +40,11 @@ unfolding unsigned_at unsigned_from
 unsigned_fits bytes u e =
     let whole = digits_of bytes in
     let part = digits_behind_point (after_digits bytes) in
-    let t = test_back (ltb 0 (length whole + length part) && leb (value_of whole part) 4294967295) (value_of whole part, after_part
-            (after_digits bytes)) u e in
+    let t = test_back (ltb 0 (length whole + length part) && leb (value_of whole part) 4294967295) (
+      value_of whole part,
+      after_part
+          (after_digits bytes),
+    ) u e in
     let le : value_of whole part ≤ 4294967295 = leb-true _ _ (and_true _ _ t.0).1 in
     subst (λ (w : ℕ × List ℕ). w.0 ≤ 4294967295) t.1 le
 
@@ -65,7 +68,7 @@ number_fits (c ∷ cs) x e = by_sign (eqb c 45) (eqb c 43) e
   where
     by_sign : (minus plus : Bool)
         → cond minus (unsigned_at cs and_then λ u. Some (neg_ℤ (pos u.0), u.1)) (cond plus (unsigned_at cs and_then λ u. Some (pos u.0, u.1))
-            (unsigned_at (c ∷ cs) and_then λ u. Some (pos u.0, u.1))) ≡ Some x
+        (unsigned_at (c ∷ cs) and_then λ u. Some (pos u.0, u.1))) ≡ Some x
         → FitsBox x.0
     by_sign true plus f = signed_fits (λ n. neg_ℤ (pos n)) abs-neg cs x f
     by_sign false true f = signed_fits (λ n. pos n) (λ n. refl) cs x f
@@ -76,7 +79,7 @@ unfolding numbers_of
 numbers_fit zero value xs e = absurd cc
 numbers_fit (suc n) value xs e =
     let s = step_back (number_at value) (λ x. cond (is_empty x.1) (Some (x.0 ∷ [])) (behind_separator x.1 and_then λ next. numbers_of n next and_then
-            λ more. Some (x.0 ∷ more))) xs e in
+    λ more. Some (x.0 ∷ more))) xs e in
     by_end s.0 (number_fits value s.0 s.1) (λ (next : List ℕ) (more : List ℤ). numbers_fit n next more) (is_empty s.0.1) s.2
   where
     by_end : (x : ℤ × List ℕ) → FitsBox x.0 → ((next : List ℕ) (more : List ℤ) → numbers_of n next ≡ Some more → AllByRecursion FitsBox more)
@@ -142,8 +145,11 @@ stroke_fits a stroke e =
 
 path_fits : (a : List Attribute) (item : Item) → IsPathElement a item → FitsItem item
 path_fits a item p =
-    let here : FitsItem (Path p.segs p.fill p.stroke) = (first_command_begins p.segs p.segs_are.args p.segs_are.others p.segs_are.meaning, stroke_fits
-            a p.stroke p.stroke_is) in
+    let here : FitsItem (Path p.segs p.fill p.stroke) = (
+      first_command_begins p.segs p.segs_are.args p.segs_are.others p.segs_are.meaning,
+      stroke_fits
+          a p.stroke p.stroke_is,
+    ) in
     subst FitsItem (sym p.is) here
 
 items_fit : {bytes rest : List ℕ} {items : List Item} → Content bytes items rest → AllByRecursion FitsItem items
@@ -184,5 +190,13 @@ document_fits bytes d p =
     let s = p.means in
     let n = numbers_fit 4 s.box_text (s.x ∷ s.y ∷ s.w ∷ s.h ∷ []) s.box_is in
     let f = subst FitsFrame (sym s.frame_is) (box_fits s.x s.y s.w s.h n.0 n.1.0 n.1.1.0 n.1.1.1.0 s.w_sign s.h_sign) in
-    record { sides = f.sides; heights = f.heights; left = f.left; top = f.top; width = f.width; height = f.height; family = s.family_is;
-        items = items_fit p.items_are }
+    record {
+      sides = f.sides;
+      heights = f.heights;
+      left = f.left;
+      top = f.top;
+      width = f.width;
+      height = f.height;
+      family = s.family_is;
+      items = items_fit p.items_are;
+    }

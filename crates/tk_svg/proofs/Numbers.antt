@@ -73,7 +73,7 @@ whole_at w rest le e =
     let p = no_part rest e in
     let value : value_of (decimal w) [] ≡ 65536 * w = rw (value-decimal w (omega arith)) (add-zero (65536 * w)) in
     unsigned_at_is (decimal w ++ rest) (decimal w) [] rest (65536 * w) d.0 (ap digits_behind_point d.1 ∙ p.0) (ap after_part d.1 ∙ p.1)
-        (decimal_some w (omega arith)) value (omega arith)
+    (decimal_some w (omega arith)) value (omega arith)
 
 -- and so is one with digits behind a point
 part_at : (w n m : ℕ) (rest : List ℕ) → w ≤ 65535 → n ≤ 17 → m < 10 ^ n → 65536 * w + nearest_65536th n m ≤ 4294967295 → EndsNumber rest
@@ -83,9 +83,9 @@ part_at w n m rest le high lt most e =
     let part = digits_front (fixed_digits n m) rest (fixed_all n m) (no_digits rest e) in
     let value : value_of (decimal w) (fixed_digits n m) ≡ 65536 * w + nearest_65536th n m =
     ap (λ (k : ℕ). 65536 * k + fraction_of (fixed_digits n m)) (value-decimal w (omega arith))
-        ∙ ap (λ (k : ℕ). 65536 * w + k) (fraction-fixed n m high lt) in
+    ∙ ap (λ (k : ℕ). 65536 * w + k) (fraction-fixed n m high lt) in
     unsigned_at_is (decimal w ++ 46 ∷ (fixed_digits n m ++ rest)) (decimal w) (fixed_digits n m) rest (65536 * w + nearest_65536th n m) whole.0
-        (ap digits_behind_point whole.1 ∙ part.0) (ap after_part whole.1 ∙ part.1) (decimal_some w (omega arith)) value most
+    (ap digits_behind_point whole.1 ∙ part.0) (ap after_part whole.1 ∙ part.1) (decimal_some w (omega arith)) value most
 
 -- the text of a number without its sign
 abbrev pub unsigned_text : ℕ → List ℕ
@@ -128,7 +128,7 @@ pub number_back : (z : ℤ) (rest : List ℕ) → unsigned_abs z ≤ 4294967295 
 unfolding number_at text_of
 number_back (pos s) rest le e =
     let whole : text_of (pos s) ++ rest ≡ decimal (s / 65536) ++ (cond (eqb (s % 65536) 0) [] (46 ∷ part_text (s % 65536)) ++ rest) = append_assoc
-            (decimal (s / 65536)) (cond (eqb (s % 65536) 0) [] (46 ∷ part_text (s % 65536))) rest in
+    (decimal (s / 65536)) (cond (eqb (s % 65536) 0) [] (46 ∷ part_text (s % 65536))) rest in
     let digits = decimal_is_IsNumeral (s / 65536) (omega arith) in
     ap number_at whole ∙ no_sign (decimal (s / 65536)) _ s rest digits.0.1 digits.0.0 (ap unsigned_at (sym whole) ∙ unsigned_back s rest le e)
 number_back (negsuc k) rest le e = rw (unsigned_back (suc k) rest le e) refl

@@ -76,7 +76,7 @@ named_same j j' c c' front front' rest rest' args args' all f f' g g' h h' =
     let fs = tail_same all c c' front front' f f' in
     let js : j ≡ j' = some_same (path_letter c) j j' g (ap path_letter cs ∙ g') in
     let out : first_numbers_at (arity j) front ≡ Some (args', rest') = ap (λ (i : Letter). first_numbers_at (arity i) front) js
-            ∙ ap (λ (w : List ℕ). first_numbers_at (arity j') w) fs ∙ h' in
+    ∙ ap (λ (w : List ℕ). first_numbers_at (arity j') w) fs ∙ h' in
     let both = some_same _ (args, rest) (args', rest') h out in
     (js, first_same _ _ both, second_same _ _ both)
 
@@ -97,7 +97,7 @@ commands_same {bytes = bytes} (named {j = j} {c = c} {front = front} {rest = res
     (named {j = j'} {c = c'} {front = front'} {rest = rest'} {args = args'} {more = more'} f' g' h' i') =
     let s = named_same j j' c c' front front' rest rest' args args' (after_blanks bytes) f f' g g' h h' in
     let other : PathCommands (repeated j) rest more' = subst (λ (l : Letter). PathCommands (repeated l) rest more') (sym s.0)
-            (subst (λ (w : List ℕ). PathCommands (repeated j') w more') (sym s.2) i') in
+    (subst (λ (w : List ℕ). PathCommands (repeated j') w more') (sym s.2) i') in
     same_cells (same_pairs s.0 s.1) (commands_same i other)
 commands_same {bytes = bytes} (named {j = j} {c = c} {front = front} f g h i) (again f' g' h' i') = absurd (named_no_number bytes c j front f g g')
 commands_same {bytes = bytes} (again f g h i) (ends e) = absurd (end_no_number bytes e g)
@@ -112,7 +112,7 @@ pub path_same : (bytes : List ℕ) (a b : List Seg) → IsPathData bytes a → I
 path_same bytes a b p q =
     let fronts = tail_same (after_blanks bytes) 77 77 p.front q.front p.begins q.begins in
     let both = some_same (first_numbers_at 2 p.front) (p.args, p.rest) (q.args, q.rest) p.first (ap (λ (w : List ℕ). first_numbers_at 2 w) fronts
-            ∙ q.first) in
+    ∙ q.first) in
     let rests : q.rest ≡ p.rest = sym (second_same _ _ both) in
     let commands = commands_same p.commands (subst (λ (w : List ℕ). PathCommands LineTo w q.others) rests q.commands) in
     let whole = same_cells (same_pairs {x = MoveTo} refl (first_same _ _ both)) commands in
@@ -194,8 +194,12 @@ content_same {bytes = bytes} (doc.path {tag = tag} {more = more} {attributes = a
 
 -- a view box is one frame
 box_same : {x y w h x' y' w' h' : ℤ} → ◌≡◌ {A = List ℤ} (x ∷ y ∷ w ∷ h ∷ []) (x' ∷ y' ∷ w' ∷ h' ∷ [])
-    → ◌≡◌ {A = Frame} (record { left = x; bottom = neg_ℤ (y +ℤ h); right = x +ℤ w; top = neg_ℤ y }) (record { left = x'; bottom = neg_ℤ (y' +ℤ h');
-        right = x' +ℤ w'; top = neg_ℤ y' })
+    → ◌≡◌ {A = Frame} (record { left = x; bottom = neg_ℤ (y +ℤ h); right = x +ℤ w; top = neg_ℤ y }) (record {
+      left = x';
+      bottom = neg_ℤ (y' +ℤ h');
+      right = x' +ℤ w';
+      top = neg_ℤ y';
+    })
 box_same e = cc
 
 svg_same : (attributes : List Attribute) (a b : Drawing) → IsSvg attributes a → IsSvg attributes b

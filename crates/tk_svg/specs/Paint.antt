@@ -106,5 +106,12 @@ stroke_of attributes =
     miter_of (value_or_initial attributes (codes "stroke-miterlimit") (codes "4")) and_then λ miter.
     dashes_of (value_or_initial attributes (codes "stroke-dasharray") (codes "none")) and_then λ dash.
     scaled_of (value_or_initial attributes (codes "stroke-dashoffset") (codes "0")) and_then λ phase.
-    Some (option_map (λ rgb. record { rgb = rgb; width = width; cap = cap; join = join; miter = miter; dash = dash;
-        phase = phase }) paint)
+    Some (option_map (λ rgb. record {
+      rgb = rgb;
+      width = width;
+      cap = cap;
+      join = join;
+      miter = miter;
+      dash = dash;
+      phase = phase;
+    }) paint)

@@ -61,7 +61,7 @@ attributes_back [] rest h b e = none b e
 attributes_back (a ∷ others) rest h b e =
     let parts = parts_of a.0 a.1 (attributes_text others) rest in
     one {name = a.0} {value = a.1} {more = attributes_text others ++ rest} refl (ap after_blanks parts ∙ name_starts a.0 _ h.0.name) h.0.name
-        (weaker_test is_plain is_value_byte plain_is_value a.1 h.0.value) (attributes_back others rest h.1 b e)
+    (weaker_test is_plain is_value_byte plain_is_value a.1 h.0.value) (attributes_back others rest h.1 b e)
 
 -- a line feed, or a printable ASCII character
 abbrev pub is_line : ℕ → Bool
@@ -80,7 +80,7 @@ attributes_line (a ∷ others) h =
     let value = weaker_test is_plain is_line plain_is_line a.1 h.0.value in
     all_both is_line (attribute_text a) (attributes_text others)
     (all_both is_line (codes " " ++ a.0 ++ codes "=\"" ++ a.1) (codes "\"") (all_both is_line (codes " " ++ a.0 ++ codes "=\"") a.1
-        (all_both is_line (codes " " ++ a.0) (codes "=\"") name refl) value) refl)
+    (all_both is_line (codes " " ++ a.0) (codes "=\"") name refl) value) refl)
     (attributes_line others h.1)
 
 -- ---- a path
@@ -125,9 +125,11 @@ stroke_written (Some s) h = (
 
 path_written : (segs : List Seg) (fill : Option Fill) (stroke : Option Stroke) → ItemInRange (Path segs fill stroke)
     → AllByRecursion IsWritten (path_attributes segs fill stroke)
-path_written segs fill stroke h =
-    (attribute_is_written _ _ (lit< tt) refl (data_plain segs h.0), written_back (fill_settings fill ++ stroke_settings stroke)
-        (both_written (fill_settings fill) (stroke_settings stroke) (fill_written fill h.1) (stroke_written stroke h.2)))
+path_written segs fill stroke h = (
+  attribute_is_written _ _ (lit< tt) refl (data_plain segs h.0),
+  written_back (fill_settings fill ++ stroke_settings stroke)
+      (both_written (fill_settings fill) (stroke_settings stroke) (fill_written fill h.1) (stroke_written stroke h.2)),
+)
 
 -- which names the settings have
 record Named (settings : List Setting) : Type 0 where
@@ -137,8 +139,11 @@ record Named (settings : List Setting) : Type 0 where
 
 named_by : (settings : List Setting) → has_name (codes "d") settings ≡ false → are_apart settings ≡ true
     → list_all (λ s. list_any (bytes_eq s.name) (codes "d" ∷ paint_names)) settings ≡ true → Named settings
-named_by settings d a n = record { no_data = absent_name_has_no_value (codes "d") settings d; apart = distinct_back settings a;
-    among = among_back (codes "d" ∷ paint_names) settings n }
+named_by settings d a n = record {
+  no_data = absent_name_has_no_value (codes "d") settings d;
+  apart = distinct_back settings a;
+  among = among_back (codes "d" ∷ paint_names) settings n;
+}
 
 settings_named : (fill : Option Fill) (stroke : Option Stroke) → Named (fill_settings fill ++ stroke_settings stroke)
 settings_named None None = named_by _ refl refl refl
@@ -177,7 +182,7 @@ items_mean (Path segs fill stroke ∷ items) f h p =
     let attributes = path_attributes segs fill stroke in
     let parts = tag_parts (attributes_text attributes) (flat_map item_text items) (codes "</svg>\n") in
     doc.path {tag = attributes_text attributes ++ 47 ∷ 62 ∷ 10 ∷ (flat_map item_text items ++ codes "</svg>\n")}
-        (ap (λ (w : List ℕ). codes "<path" ++ w) parts)
+    (ap (λ (w : List ℕ). codes "<path" ++ w) parts)
     (attributes_back attributes _ (path_written segs fill stroke h.0) refl (_, inr refl))
     (path_is segs fill stroke h.0 f.0) (items_mean items f.1 h.1 p.1)
 items_mean (Label label ∷ items) f h p = absurd p.0
@@ -188,8 +193,8 @@ items_line [] h = refl
 items_line (Path segs fill stroke ∷ items) h =
     let attributes = path_attributes segs fill stroke in
     all_both is_line (codes "<path" ++ attributes_text attributes ++ codes "/>\n") (flat_map item_text items)
-        (all_both is_line (codes "<path" ++ attributes_text attributes) (codes "/>\n") (attributes_line attributes (path_written segs fill stroke
-        h.0)) refl) (items_line items h.1)
+    (all_both is_line (codes "<path" ++ attributes_text attributes) (codes "/>\n") (attributes_line attributes (path_written segs fill stroke
+    h.0)) refl) (items_line items h.1)
 items_line (Label label ∷ items) h = items_line items h.1
 
 -- ---- the outermost element
@@ -239,8 +244,12 @@ svg_written d f s = (
 )
 
 frame_back : (frame : Frame)
-    → frame ≡ record { left = frame.left; bottom = neg_ℤ (neg_ℤ frame.top +ℤ frame_height frame); right = frame.left +ℤ frame_width frame;
-        top = neg_ℤ (neg_ℤ frame.top) }
+    → frame ≡ record {
+      left = frame.left;
+      bottom = neg_ℤ (neg_ℤ frame.top +ℤ frame_height frame);
+      right = frame.left +ℤ frame_width frame;
+      top = neg_ℤ (neg_ℤ frame.top);
+    }
 frame_back frame =
     let bottom : frame.bottom ≡ neg_ℤ (neg_ℤ frame.top +ℤ frame_height frame) = omega (arith, ints) in
     let right : frame.right ≡ frame.left +ℤ frame_width frame = omega (arith, ints) in
@@ -285,7 +294,7 @@ document_line d f s h =
     (all_both is_line (declaration ++ codes "\n" ++ svg_text d) (flat_map item_text d.items)
     (all_both is_line (declaration ++ codes "\n") (svg_text d) refl
     (all_both is_line (codes "<svg" ++ attributes_text (svg_attributes d)) (codes ">\n") (attributes_line (svg_attributes d) (svg_written d f s))
-        refl))
+    refl))
     (items_line d.items h)) refl
 
 line_is_ascii : (c : ℕ) → is_line c ≡ true → c < 128
@@ -299,7 +308,7 @@ lines_are_ascii bytes h = IsAscii-from_all bytes (λ k e lt. line_is_ascii _ (Al
 
 document_parts : (attributes items : List ℕ)
     → (((declaration ++ codes "\n") ++ (codes "<svg" ++ attributes ++ codes ">\n")) ++ items) ++ codes "</svg>\n" ≡ declaration ++ 10 ∷ 60 ∷ 115 ∷ 118
-        ∷ 103 ∷ (attributes ++ 62 ∷ 10 ∷ (items ++ codes "</svg>\n"))
+    ∷ 103 ∷ (attributes ++ 62 ∷ 10 ∷ (items ++ codes "</svg>\n"))
 document_parts attributes items = simp append_assoc
 
 pub document_means : (d : Drawing) → Fits d → IsScaled d.size → AllByRecursion ItemInRange d.items → AllByRecursion IsPath d.items

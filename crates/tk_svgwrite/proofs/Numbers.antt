@@ -95,7 +95,7 @@ tail_back (y ∷ ys) rest h e =
     let starts = text_starts y (tail_text ys ++ rest) h.0 in
     let here : number_at (after_separator (32 ∷ (numbers_text (y ∷ ys) ++ rest))) ≡ Some (y, tail_text ys ++ rest) =
     ap (λ (w : List ℕ). number_at (after_comma (after_blanks w))) (first_then y ys rest) ∙ ap (λ (w : List ℕ). number_at (after_comma w)) starts.0
-        ∙ ap number_at starts.1 ∙ number_back y (tail_text ys ++ rest) h.0 (tail_ends ys rest e) in
+    ∙ ap number_at starts.1 ∙ number_back y (tail_text ys ++ rest) h.0 (tail_ends ys rest e) in
     rw (here, tail_back ys rest h.1 e) refl
 
 -- numbers behind a letter
@@ -104,7 +104,7 @@ pub numbers_back : (x : ℤ) (xs : List ℤ) (rest : List ℕ) → AllByRecursio
 numbers_back x xs rest h e =
     let here : number_at (after_blanks (numbers_text (x ∷ xs) ++ rest)) ≡ Some (x, tail_text xs ++ rest) =
     ap (λ (w : List ℕ). number_at (after_blanks w)) (first_then x xs rest) ∙ ap number_at (text_starts x (tail_text xs ++ rest) h.0).0
-        ∙ number_back x (tail_text xs ++ rest) h.0 (tail_ends xs rest e) in
+    ∙ number_back x (tail_text xs ++ rest) h.0 (tail_ends xs rest e) in
     rw (here, tail_back xs rest h.1 e) refl
 
 -- a value that is one number

@@ -58,8 +58,15 @@ hex_plain n lt = rw (glyph_plain (n / 16) (omega arith), glyph_plain (n % 16) (o
 
 pub rgb_plain : (c : Rgb) → RgbInRange c → list_all is_plain (rgb_text c) ≡ true
 rgb_plain c h =
-    rw (glyph_plain (c.r / 16) (omega (arith, h.r)), glyph_plain (c.r % 16) (omega arith), glyph_plain (c.g / 16) (omega (arith, h.g)), glyph_plain
-        (c.g % 16) (omega arith), glyph_plain (c.b / 16) (omega (arith, h.b)), glyph_plain (c.b % 16) (omega arith)) refl
+    rw (
+      glyph_plain (c.r / 16) (omega (arith, h.r)),
+      glyph_plain (c.r % 16) (omega arith),
+      glyph_plain (c.g / 16) (omega (arith, h.g)),
+      glyph_plain
+          (c.g % 16) (omega arith),
+      glyph_plain (c.b / 16) (omega (arith, h.b)),
+      glyph_plain (c.b % 16) (omega arith),
+    ) refl
 
 -- ---- words
 
@@ -205,7 +212,7 @@ stroke_from p w c j m ds f t e1 e2 e3 e4 e5 e6 e7 =
 
 texts_of : (data_text : List ℕ) (fill : Option Fill) (s : Stroke)
     → StrokeTexts ((codes "d", data_text) ∷ differing (fill_settings fill ++ stroke_settings (Some s))) (rgb_text s.rgb) (text_of s.width)
-        (cap_text s.cap) (join_text s.join) (text_of s.miter) (dash_text s.dash) (text_of s.phase)
+    (cap_text s.cap) (join_text s.join) (text_of s.miter) (dash_text s.dash) (text_of s.phase)
 texts_of data_text None s = record {
   paint_given = given_back (codes "stroke") (codes "none") (fill_settings None ++ stroke_settings (Some s)) refl;
   width_given = given_back (codes "stroke-width") (codes "1") (fill_settings None ++ stroke_settings (Some s)) refl;
@@ -227,7 +234,7 @@ texts_of data_text (Some f) s = record {
 
 no_texts : (data_text : List ℕ) (fill : Option Fill)
     → StrokeTexts ((codes "d", data_text) ∷ differing (fill_settings fill ++ [])) (codes "none") (codes "1") (codes "butt") (codes "miter")
-        (codes "4") (codes "none") (codes "0")
+    (codes "4") (codes "none") (codes "0")
 no_texts data_text None = record {
   paint_given = given_back (codes "stroke") (codes "none") (fill_settings None) refl;
   width_given = given_back (codes "stroke-width") (codes "1") (fill_settings None) refl;

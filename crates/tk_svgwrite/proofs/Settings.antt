@@ -78,7 +78,7 @@ given_back name initial (s ∷ settings) h = by_name (bytes_eq name s.name) refl
     by_name true e g more =
         let both = and_true (bytes_eq initial s.initial) (not (has_name name settings)) g in
         value_at_its_name name initial s (differing settings) (bytes_eq s.value s.initial) refl ((bytes_eq-Decides name s.name).0 e)
-            ((bytes_eq-Decides initial s.initial).0 both.0) (absent_name_has_no_value name settings (not_true _ both.1))
+        ((bytes_eq-Decides initial s.initial).0 both.0) (absent_name_has_no_value name settings (not_true _ both.1))
     by_name false e g more = value_elsewhere name initial s (differing settings) (bytes_eq s.value s.initial) e ∙ more g
 
 pub distinct_back : (settings : List Setting) → are_apart settings ≡ true → are_distinct (differing settings) ≡ true

@@ -53,7 +53,7 @@ pub setting_step : (done : List Setting) (s : Setting) (before now new : List �
     → new ≡ now ++ settings_text (s ∷ []) → new ≡ before ++ settings_text (done ++ s ∷ [])
 setting_step done s before now new so_far more =
     more ∙ ap (λ (w : List ℕ). w ++ settings_text (s ∷ [])) so_far ∙ append_assoc before (settings_text done) (settings_text (s ∷ []))
-        ∙ ap (λ w. before ++ w) (sym (settings_text-append done (s ∷ [])))
+    ∙ ap (λ w. before ++ w) (sym (settings_text-append done (s ∷ [])))
 
 pub attribute_step : (done : List Attribute) (a : Attribute) (before now new : List ℕ) → now ≡ before ++ attributes_text done
     → new ≡ now ++ attribute_text a → new ≡ before ++ attributes_text (done ++ a ∷ [])
@@ -85,9 +85,9 @@ pub some_dashes : (before opened now : List ℕ) (x : ℤ) (xs ds : List ℤ) �
 some_dashes before opened now x xs ds is o n h d =
     let few : length (x ∷ xs) ≤ 16 = subst (λ (w : List ℤ). length w ≤ 16) is d.few in
     let same : settings_text (dash_setting ds ∷ []) ≡ settings_text (dash_setting (x ∷ xs) ∷ []) = ap (λ (w : List ℤ). settings_text
-            (dash_setting w ∷ [])) is in
+    (dash_setting w ∷ [])) is in
     ap (λ (w : List ℕ). w ++ codes "\"") (n ∙ ap (λ (w : List ℕ). w ++ numbers_text (x ∷ xs)) o)
-        ∙ joined_inside before (codes " " ++ codes "stroke-dasharray" ++ codes "=\"") (numbers_text (x ∷ xs)) (codes "\"")
+    ∙ joined_inside before (codes " " ++ codes "stroke-dasharray" ++ codes "=\"") (numbers_text (x ∷ xs)) (codes "\"")
     ∙ ap (λ w. before ++ w) (sym (same ∙ dashes_text x xs h few))
 
 -- ---- elements
@@ -103,7 +103,7 @@ pub presentation_parts : (before quoted filled drawn all : List ℕ) (fill : Opt
 presentation_parts before quoted filled drawn all fill stroke none q f d e =
     e
     ∙ ap (λ (w : List ℕ). w ++ codes "/>\n") (d ∙ ap (λ (w : List ℕ). w ++ settings_text (stroke_settings stroke)) (f
-        ∙ ap (λ (w : List ℕ). w ++ settings_text (fill_settings fill)) (q ∙ ap (λ (w : List ℕ). w ++ codes "\"") none)))
+    ∙ ap (λ (w : List ℕ). w ++ settings_text (fill_settings fill)) (q ∙ ap (λ (w : List ℕ). w ++ codes "\"") none)))
     ∙ ap (λ (w : List ℕ). w ++ codes "/>\n") (append_assoc (codes "\"") (settings_text (fill_settings fill)) (settings_text (stroke_settings stroke)))
     ∙ ap (λ (w : List ℕ). codes "\"" ++ w ++ codes "/>\n") (sym (settings_text-append (fill_settings fill) (stroke_settings stroke)))
 
@@ -120,7 +120,7 @@ path_parts before opened described all segs fill stroke o d e =
     e
     ∙ ap (λ (w : List ℕ). w ++ presentation_text fill stroke) (d ∙ ap (λ (w : List ℕ). w ++ data_text segs) o)
     ∙ path_shape before (codes "<path") (codes " d=\"") (data_text segs) (codes "\"") (settings_text (fill_settings fill ++ stroke_settings stroke))
-        (codes "/>\n")
+    (codes "/>\n")
 
 pub svg_parts : (before now : List ℕ) (d : Drawing) → now ≡ (before ++ codes "<svg") ++ attributes_text (svg_attributes d)
     → now ++ codes ">\n" ≡ before ++ svg_text d
@@ -146,14 +146,14 @@ pub letters_step : (xs : List ℕ) (i x : ℕ) (before now new : List ℕ) → i
     → new ≡ now ++ x ∷ [] → new ≡ before ++ take (i + 1) xs
 letters_step xs i x before now new lt here so_far more =
     more ∙ ap (λ (w : List ℕ). w ++ x ∷ []) so_far ∙ append_assoc before (take i xs) (x ∷ []) ∙ ap (λ (w : List ℕ). before ++ w)
-        (sym (take_more xs i x lt ∙ ap (λ y. take i xs ++ y ∷ []) (sym here)))
+    (sym (take_more xs i x lt ∙ ap (λ y. take i xs ++ y ∷ []) (sym here)))
 
 pub family_parts : (before opened now family : List ℕ) (i : ℕ) → length family ≤ i
     → opened ≡ before ++ (codes " " ++ codes "font-family" ++ codes "=\"") → now ≡ opened ++ take i family
     → now ++ codes "\"" ≡ before ++ attribute_text (codes "font-family", family)
 family_parts before opened now family i le o n =
     ap (λ (w : List ℕ). w ++ codes "\"") (n ∙ ap (λ (w : List ℕ). opened ++ w) (take_all i family le) ∙ ap (λ (w : List ℕ). w ++ family) o)
-        ∙ joined_inside before (codes " " ++ codes "font-family" ++ codes "=\"") family (codes "\"")
+    ∙ joined_inside before (codes " " ++ codes "font-family" ++ codes "=\"") family (codes "\"")
 
 -- ---- a fill and a stroke
 
@@ -163,9 +163,9 @@ pub fill_parts : (before first : List ℕ) (fill : Option Fill) (f : Fill) (colo
 fill_parts before first fill f colour rule e c r h =
     setting_step (setting (codes "fill") (codes "#000000") colour ∷ []) (setting (codes "fill-rule") (codes "nonzero") rule) before first _ h refl
     ∙ ap (λ (w : List ℕ). before ++ settings_text (setting (codes "fill") (codes "#000000") w ∷ setting (codes "fill-rule") (codes "nonzero") rule
-        ∷ [])) c
+    ∷ [])) c
     ∙ ap (λ (w : List ℕ). before ++ settings_text (setting (codes "fill") (codes "#000000") (rgb_text f.rgb) ∷ setting (codes "fill-rule")
-        (codes "nonzero") w ∷ [])) r
+    (codes "nonzero") w ∷ [])) r
     ∙ ap (λ (w : Option Fill). before ++ settings_text (fill_settings w)) (sym e)
 
 -- seven settings, one behind another
@@ -187,7 +187,7 @@ pub svg_steps : (before o1 o2 o3 o4 o5 o6 o7 : List ℕ) (d : Drawing)
     → o3 ≡ o2 ++ attribute_text (codes "width", points_text (frame_width d.frame))
     → o4 ≡ o3 ++ attribute_text (codes "height", points_text (frame_height d.frame)) →
     o5 ≡ o4 ++ attribute_text (codes "viewBox", box_text d.frame) → o6 ≡ o5 ++ attribute_text (codes "font-family", d.family)
-        → o7 ≡ o6 ++ attribute_text (codes "font-size", text_of d.size) → o7 ≡ before ++ attributes_text (svg_attributes d)
+    → o7 ≡ o6 ++ attribute_text (codes "font-size", text_of d.size) → o7 ≡ before ++ attributes_text (svg_attributes d)
 svg_steps before o1 o2 o3 o4 o5 o6 o7 d h1 h2 h3 h4 h5 h6 h7 =
     let a : Attribute = (codes "xmlns", codes "http://www.w3.org/2000/svg") in
     let b : Attribute = (codes "version", codes "1.1") in
@@ -206,11 +206,11 @@ svg_steps before o1 o2 o3 o4 o5 o6 o7 d h1 h2 h3 h4 h5 h6 h7 =
 pub pen_parts : (before o1 o2 o3 o4 o5 o6 : List ℕ) (s : Stroke) (colour ends joins : List ℕ) → colour ≡ rgb_text s.rgb → ends ≡ cap_text s.cap
     → joins ≡ join_text s.join →
     o1 ≡ before ++ settings_text (setting (codes "stroke") (codes "none") colour ∷ [])
-        → o2 ≡ o1 ++ settings_text (setting (codes "stroke-width") (codes "1") (text_of s.width) ∷ [])
-        → o3 ≡ o2 ++ settings_text (setting (codes "stroke-linecap") (codes "butt") ends ∷ [])
-        → o4 ≡ o3 ++ settings_text (setting (codes "stroke-linejoin") (codes "miter") joins ∷ []) →
+    → o2 ≡ o1 ++ settings_text (setting (codes "stroke-width") (codes "1") (text_of s.width) ∷ [])
+    → o3 ≡ o2 ++ settings_text (setting (codes "stroke-linecap") (codes "butt") ends ∷ [])
+    → o4 ≡ o3 ++ settings_text (setting (codes "stroke-linejoin") (codes "miter") joins ∷ []) →
     o5 ≡ o4 ++ settings_text (setting (codes "stroke-miterlimit") (codes "4") (text_of s.miter) ∷ [])
-        → o6 ≡ o5 ++ settings_text (dash_setting s.dash ∷ []) →
+    → o6 ≡ o5 ++ settings_text (dash_setting s.dash ∷ []) →
     o6 ++ settings_text (setting (codes "stroke-dashoffset") (codes "0") (text_of s.phase) ∷ []) ≡ before ++ settings_text (stroke_settings (Some s))
 pen_parts before o1 o2 o3 o4 o5 o6 s colour ends joins e f g h1 h2 h3 h4 h5 h6 =
     let h1 = h1 ∙ ap (λ (w : List ℕ). before ++ settings_text (setting (codes "stroke") (codes "none") w ∷ [])) e in

@@ -38,7 +38,7 @@ module _ (names : List (List ℕ)) (toks : List Tok) (i : ℕ) (d : Tok) (before
 
   told_here : open_after_all [] (map (token_of names) toks) ≡ open_after_all before (map (token_of names) (drop i toks))
       → open_after_all [] (map (token_of names) toks) ≡ (open_after before (sign_of names tok.kind) tok.at >>= λ (after : List ℕ). open_after_all
-          after (map (token_of names) (drop (i + 1) toks)))
+      after (map (token_of names) (drop (i + 1) toks)))
   told_here told = told ∙ ap (open_after_all before) from_here
 
   -- one more token is taken
@@ -47,18 +47,18 @@ module _ (names : List (List ℕ)) (toks : List Tok) (i : ℕ) (d : Tok) (before
       → open_after_all [] (map (token_of names) toks) ≡ open_after_all after (map (token_of names) (drop (i + 1) toks))
   one_more after told goes =
       told_here told ∙ then_is (open_after before (sign_of names tok.kind) tok.at) (λ (after : List ℕ). open_after_all after
-          (map (token_of names) (drop (i + 1) toks))) after goes
+      (map (token_of names) (drop (i + 1) toks))) after goes
 
   -- or is at fault
   pub one_fails : (e : Refusal) → open_after_all [] (map (token_of names) toks) ≡ open_after_all before (map (token_of names) (drop i toks))
       → Fails e (open_after before (sign_of names tok.kind) tok.at) → Fails e (balanced (map (token_of names) toks))
   one_fails e told h =
       let here : Answer (List ℕ) = open_after before (sign_of names tok.kind) tok.at >>= λ (after : List ℕ). open_after_all after
-              (map (token_of names) (drop (i + 1) toks)) in
+      (map (token_of names) (drop (i + 1) toks)) in
       let all : List Token = map (token_of names) toks in
       fails_as e (balanced all) (here >>= none_open all) (ap (λ (m : Answer (List ℕ)). m >>= none_open all) (told_here told))
       (fails_then e here (none_open all) (fails_then e (open_after before (sign_of names tok.kind) tok.at) (λ (after : List ℕ). open_after_all after
-          (map (token_of names) (drop (i + 1) toks))) h))
+      (map (token_of names) (drop (i + 1) toks))) h))
 
 -- a brace that is left open
 pub left_open : (names : List (List ℕ)) (toks : List Tok) (i : ℕ) (open_at : List ℕ) (at : ℕ) → length toks ≤ i

@@ -41,7 +41,7 @@ no_bar_in_front (t ∷ ts) n = before_false (is_bar t) true (or_left (is_bar t) 
 not_in_front : (t : Tok) (ts : List Tok) → is_bar t ≡ false → list_any is_bar ts ≡ false → begins_corner (t ∷ ts) ≡ false
 not_in_front t ts e n =
     neither_is_false (begins_text (codes "-|") (t ∷ ts)) (begins_text (codes "|-") (t ∷ ts)) (after_false (is_char 45 t.kind)
-        (begins_text (124 ∷ []) ts) (no_bar_in_front ts n)) (before_false (is_bar t) (begins_text (45 ∷ []) ts) e)
+    (begins_text (124 ∷ []) ts) (no_bar_in_front ts n)) (before_false (is_bar t) (begins_text (45 ∷ []) ts) e)
 
 -- the search goes past a token that begins none
 goes_on : (depth : ℕ) (t : Tok) (ts : List Tok) → begins_corner (t ∷ ts) ≡ false → first_outside_in begins_corner (depth_after depth t.kind) ts ≡ None
@@ -54,7 +54,7 @@ no_corner_in : (depth : ℕ) (ts : List Tok) → list_any is_bar ts ≡ false �
 no_corner_in depth [] n = none_in begins_corner depth
 no_corner_in depth (t ∷ ts) n =
     goes_on depth t ts (not_in_front t ts (or_left (is_bar t) (list_any is_bar ts) n) (or_right (is_bar t) (list_any is_bar ts) n))
-        (no_corner_in (depth_after depth t.kind) ts (or_right (is_bar t) (list_any is_bar ts) n)) (depth == 0 && is_close t.kind) refl
+    (no_corner_in (depth_after depth t.kind) ts (or_right (is_bar t) (list_any is_bar ts) n)) (depth == 0 && is_close t.kind) refl
 
 -- there is none outside braces
 pub no_corner : (ts : List Tok) → list_any (λ (t : Tok). is_char bar t.kind) ts ≡ false → first_outside begins_corner ts ≡ None

@@ -101,7 +101,7 @@ text_fault_stands source = by_test (is_utf8 source) refl
 
     by_test : (b : Bool) → is_utf8 source ≡ b
         → IfSome (if b then option_map (fault_at BadChar) (first_place is_refused (chars source))
-            else Some (fault_at NotUtf8 (utf8_valid_len source))) (λ f. IsTextTo source f.at)
+        else Some (fault_at NotUtf8 (utf8_valid_len source))) (λ f. IsTextTo source f.at)
     by_test true e = mapped (first_place is_refused (chars source)) (char_stands source is_refused (IsUtf8-from_is_utf8 source e))
     by_test false e = (utf8_valid_len_le source, text_to_fault source)
 
@@ -124,4 +124,4 @@ pub before_tokens : (source : List ℕ) (answer : Answer (List Token)) → Lexes
 before_tokens source answer (refused e) = tt
 before_tokens source answer (cut {toks = toks} e t) =
     same_tokens (λ ts. IsUtf8 source × AllByRecursion (λ (t : Token). IsStart source t.at) ts) toks (open_after_all [] toks)
-        (text_without_fault source e, starts source (text_without_fault source e) t (ends_mark (chars source)))
+    (text_without_fault source e, starts source (text_without_fault source e) t (ends_mark (chars source)))

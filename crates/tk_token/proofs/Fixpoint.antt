@@ -21,13 +21,13 @@ module _ {A R : Type 0} (size : A → ℕ) (stuck : R) (step : (A → R) → A �
   enough (suc n) zero a h k = absurd (omega arith)
   enough (suc n) (suc m) a h k =
       ap (λ (f : A → R). step f a) (smaller_alike size stuck (within size stuck step n) (within size stuck step m) a
-          (λ b lt. enough n m b (omega arith) (omega arith)))
+      (λ b lt. enough n m b (omega arith) (omega arith)))
 
   pub by_size_is : (a : A) → by_size size stuck step a ≡ step (smaller size stuck (by_size size stuck step) a) a
   unfolding within by_size
   by_size_is a =
       ap (λ (f : A → R). step f a) (smaller_alike size stuck (within size stuck step (size a)) (by_size size stuck step) a
-          (λ b lt. enough (size a) (suc (size b)) b (omega arith) (omega arith)))
+      (λ b lt. enough (size a) (suc (size b)) b (omega arith) (omega arith)))
 
 module _ {A R : Type 0} (size : A → ℕ) (stuck : R) where
   asked_at : (t : Bool) (f : A → R) (b : A) → t ≡ true → ask t stuck f b ≡ f b
@@ -49,7 +49,7 @@ module _ {A R : Type 0} (size : A → ℕ) (stuck : R) (step : (A → R) → A �
   within_keeps base keep zero a = base a
   within_keeps base keep (suc n) a =
       keep (smaller size stuck (within size stuck step n) a) (λ b. ask_keeps (nat_lt (size b) (size a)) (within size stuck step n) b (base b)
-          (within_keeps base keep n b)) a
+      (within_keeps base keep n b)) a
 
   -- what each step keeps holds of the meaning
   pub kept : ((a : A) → P a stuck) → ((f : A → R) → ((b : A) → P b (f b)) → (a : A) → P a (step f a)) → (a : A) → P a (by_size size stuck step a)
@@ -74,4 +74,4 @@ pub unbounded : {A R : Type 0} (size : A → ℕ) (stuck : R) (step : (A → R) 
     → by_size size stuck step a ≡ step (by_size size stuck step) a
 unbounded size stuck step asks a =
     by_size_is size stuck step a ∙ asks (smaller size stuck (by_size size stuck step) a) (by_size size stuck step) a
-        (λ b lt. asked size stuck (by_size size stuck step) a b lt)
+    (λ b lt. asked size stuck (by_size size stuck step) a b lt)

@@ -31,7 +31,7 @@ module _ (text : List ℕ) (start : ℕ) (within : start ≤ length text) (since
   is_last_line before =
       let n : suffix_len (λ c. not (is_line_end c)) text ≡ length text - start =
       suffix_len_is (λ c. not (is_line_end c)) text start 0 within (λ k a b. no_line_end (get_or text k 0) (since k a b))
-          (λ p. a_line_end (get_or text (start - 1) 0) (before p)) in
+      (λ p. a_line_end (get_or text (start - 1) 0) (before p)) in
       let at : start ≡ length text - suffix_len (λ c. not (is_line_end c)) text = rw n (omega arith) in
       all_taken text start ∙ ap (λ (m : ℕ). drop m text) at
 

@@ -49,14 +49,14 @@ module _ {Z : Type 0} where
   found_at (k ∷ ks) word i h =
       let at = position-Some (λ x. bytes_eq word (string_bytes x)) (k ∷ ks) i k h in
       slice_get-map string_bytes (k ∷ ks) i ∙ ap (option_map string_bytes) (slice_get-get_or (k ∷ ks) i k at.0)
-          ∙ ap (λ (w : List ℕ). Some w) (sym ((bytes_decides _ _).0 at.1))
+      ∙ ap (λ (w : List ℕ). Some w) (sym ((bytes_decides _ _).0 at.1))
 
   -- a word that isn't there goes last
   pub new_word : (ks fs : List (String Z)) (v : String Z) (word : List ℕ) → string_bytes v ≡ word
       → list_any (λ k. bytes_eq word (string_bytes k)) ks ≡ false → fs ≡ insert_key string_eq ks v → words_of fs ≡ words_of ks ++ word ∷ []
   new_word ks fs v word same none is =
       let absent : list_any (string_eq v) ks ≡ false = subst (λ (w : List ℕ). list_any (λ k. bytes_eq w (string_bytes k)) ks ≡ false) (sym same) none
-              in
+      in
       let last : fs ≡ ks ++ v ∷ [] = is ∙ ap (λ (b : Bool). if b then ks else ks ++ v ∷ []) absent in
       ap words_of last ∙ map-append string_bytes ks (v ∷ []) ∙ ap (λ (w : List ℕ). words_of ks ++ w ∷ []) same
 

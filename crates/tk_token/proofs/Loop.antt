@@ -62,7 +62,7 @@ pub listed_more : (names new : List (List ℕ)) (toks : List Tok) (tok : Tok) �
 unfolding words_of
 listed_more names new toks tok listed more known grown =
     let olds : map (token_of new) toks ≡ map (token_of names) toks = ap (λ (ns : List (List ℕ)). map (token_of ns) toks) more.1
-            ∙ tokens_same names more.0 toks known in
+    ∙ tokens_same names more.0 toks known in
     grown
     ∙ ap (λ (ws : List (List ℕ)). with_sign ws (sign_of new tok.kind)) (listed ∙ ap words_of (sym olds))
     ∙ sym (ap words_of (map-append (token_of new) toks (tok ∷ [])) ∙ with_last [] (map (token_of new) toks) (token_of new tok))
@@ -78,7 +78,7 @@ goes_on_more n all rest behind names new toks kind at so known more piece utf8 a
     let token : Token = token_at n (chars rest) (sign_of new kind) in
     let here : Tokens n all (map (token_of names) toks ++ token ∷ ts) = so (token ∷ ts) (piece.cut n ts t) in
     let olds : map (token_of new) toks ≡ map (token_of names) toks = ap (λ (ns : List (List ℕ)). map (token_of ns) toks) more.1
-            ∙ tokens_same names more.0 toks known in
+    ∙ tokens_same names more.0 toks known in
     let last : record { sign = sign_of new kind; at = at } ≡ token = ap (λ (m : ℕ). record { sign = sign_of new kind; at = m }) place in
     let whole : map (token_of new) (toks ++ record { kind = kind; at = at } ∷ []) ++ ts ≡ map (token_of names) toks ++ token ∷ ts =
     ap (λ (w : List Token). w ++ ts) (map-append (token_of new) toks (record { kind = kind; at = at } ∷ []))

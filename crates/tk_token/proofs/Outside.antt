@@ -31,7 +31,7 @@ module _ (sought : List Tok → Bool) (depth : ℕ) (t : Tok) (ts : List Tok) wh
 
   passed : (depth == 0 && sought (t ∷ ts)) ≡ false
       → first_outside_in sought depth (t ∷ ts)
-          ≡ (if depth == 0 && is_close t.kind then None else with_first t (first_outside_in sought (depth_after depth t.kind) ts))
+      ≡ (if depth == 0 && is_close t.kind then None else with_first t (first_outside_in sought (depth_after depth t.kind) ts))
   passed h = search_step ∙ ap (λ (b : Bool). if b then Some (cut [] (t ∷ ts)) else (if depth == 0 && is_close t.kind then None else with_first t
       (first_outside_in sought (depth_after depth t.kind) ts))) h
 
@@ -117,7 +117,7 @@ module _ (sought : List Tok → Bool) where
       by_tests : (a b : Bool) → (depth == 0 && sought (t ∷ ts)) ≡ a
           → IfSome (with_first t (first_outside_in sought (depth_after depth t.kind) ts)) (Parts sought (t ∷ ts))
           → IfSome (if a then Some (cut [] (t ∷ ts)) else (if b then None else with_first t (first_outside_in sought (depth_after depth t.kind) ts)))
-              (Parts sought (t ∷ ts))
+          (Parts sought (t ∷ ts))
       by_tests true b e h = (refl, and_right (depth == 0) (sought (t ∷ ts)) e)
       by_tests false true e h = tt
       by_tests false false e h = h

@@ -52,7 +52,7 @@ module _ (p : ℕ → Bool) where
   first_found text rest front cs c utf8 rest_utf8 is rest_is none e =
       let bytes : length text ≡ byte_count front + length rest =
       sym (byte_count_is text utf8) ∙ ap byte_count is ∙ ap length (encodes-append front (chars rest)) ∙ length-append (encode_utf8_all front)
-          (encode_utf8_all (chars rest)) ∙ ap (λ (n : ℕ). byte_count front + n) (byte_count_is rest rest_utf8) in
+      (encode_utf8_all (chars rest)) ∙ ap (λ (n : ℕ). byte_count front + n) (byte_count_is rest rest_utf8) in
       let count : length text - length rest ≡ byte_count front = omega arith in
       ap (λ (n : ℕ). Some n) count ∙ sym (ap (first_place p) (is ∙ ap (λ (r : List ℕ). front ++ r) rest_is) ∙ found_is front cs c none e)
 
@@ -61,7 +61,7 @@ module _ (p : ℕ → Bool) where
   none_found text front is none =
       let all : chars text ≡ front = is ∙ append-nil front in
       let nowhere : position p front ≡ None = ap (λ (n : ℕ). cond (ltb n (length front)) (Some n) None) (found_nowhere front none)
-              ∙ same_end (length front) in
+      ∙ same_end (length front) in
       sym (ap (first_place p) all ∙ ap (option_map (λ k. byte_count (take k front))) nowhere)
 
 -- bytes that aren't text fail the test

@@ -26,7 +26,7 @@ space_behind : (ts : List Tok) (t : Tok) → is_space t.kind ≡ true → before
 unfolding before_spaces
 space_behind ts t h =
     taken_behind ts t (length (ts ++ t ∷ [])) (suffix_len is_space_token ts) (suffix_len is_space_token (ts ++ t ∷ [])) (length_push ts t)
-        (suffix_more ts t ∙ rw h refl)
+    (suffix_more ts t ∙ rw h refl)
 
 other_behind : (ts : List Tok) (t : Tok) → is_space t.kind ≡ false → before_spaces (ts ++ t ∷ []) ≡ ts ++ t ∷ []
 unfolding before_spaces

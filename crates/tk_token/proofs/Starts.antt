@@ -27,8 +27,11 @@ pub ends_all : (all : List ℕ) → Ends all all
 ends_all all = ([], refl)
 
 pub ends_drop : (all rest : List ℕ) (k : ℕ) → Ends all rest → Ends all (drop k rest)
-ends_drop all rest k (front, is) = (front ++ take k rest, is ∙ ap (λ (r : List ℕ). front ++ r) (sym (take-append-drop k rest))
-    ∙ sym (append_assoc front (take k rest) (drop k rest)))
+ends_drop all rest k (front, is) = (
+  front ++ take k rest,
+  is ∙ ap (λ (r : List ℕ). front ++ r) (sym (take-append-drop k rest))
+      ∙ sym (append_assoc front (take k rest) (drop k rest)),
+)
 
 pub ends_tail : (all rest : List ℕ) (c : ℕ) → Ends all (c ∷ rest) → Ends all rest
 ends_tail all rest c e = ends_drop all (c ∷ rest) 1 e
@@ -81,7 +84,7 @@ module _ (text : List ℕ) (utf8 : IsUtf8 text) where
   pub front_is_text : (front rest : List ℕ) → chars text ≡ front ++ rest → (byte_count front ≤ length text) × IsUtf8 (take (byte_count front) text)
   front_is_text front rest is =
       let before : take (byte_count front) text ≡ encode_utf8_all front = ap (take (byte_count front)) (whole front rest is)
-              ∙ take-append_seam (encode_utf8_all front) (encode_utf8_all rest) in
+      ∙ take-append_seam (encode_utf8_all front) (encode_utf8_all rest) in
       let scalars : all_scalars front ≡ true = scalars_front front rest (ap all_scalars (sym is) ∙ scalars-chars text utf8) in
       (omega (arith, long front rest is), (front, (scalars, sym before)))
 
@@ -95,9 +98,11 @@ module _ (text : List ℕ) (utf8 : IsUtf8 text) where
   starts ends e = tt
   starts (comment {cs = cs} t) e = starts t (ends_comment (chars text) cs (ends_tail (chars text) cs 37 e))
   starts (gap {c = c} {cs = cs} b t) e = (start_of c cs e, starts t (ends_gap (chars text) false cs (ends_tail (chars text) cs c e)))
-  starts (word {c = c} {cs = cs} l t) e =
-      (start_of 92 (c ∷ cs) e, starts t (ends_gap (chars text) false (after_word (c ∷ cs)) (ends_drop (chars text) (c ∷ cs)
-      (prefix_len is_letter (c ∷ cs)) (ends_tail (chars text) (c ∷ cs) 92 e))))
+  starts (word {c = c} {cs = cs} l t) e = (
+    start_of 92 (c ∷ cs) e,
+    starts t (ends_gap (chars text) false (after_word (c ∷ cs)) (ends_drop (chars text) (c ∷ cs)
+        (prefix_len is_letter (c ∷ cs)) (ends_tail (chars text) (c ∷ cs) 92 e))),
+  )
   starts (control_space {cs = cs} b t) e = (start_of 92 cs e, starts t (ends_gap (chars text) false cs (ends_tail (chars text) cs 92 e)))
   starts (symbol {c = c} {cs = cs} l b t) e = (start_of 92 (c ∷ cs) e, starts t (ends_tail (chars text) cs c (ends_tail (chars text) (c ∷ cs) 92 e)))
   starts (other {c = c} {cs = cs} b ne ne' t) e = (start_of c cs e, starts t (ends_tail (chars text) cs c e))
@@ -142,10 +147,10 @@ module _ (names : List (List ℕ)) (P : Token → Type 0) (Q : Tok → Type 0) (
   each_tok (t ∷ ts) h (suc k) d lt = each_tok ts h.1 k d (omega arith)
 
 module _ (names : List (List ℕ)) (text : List ℕ) (toks : List Tok) (cut : Tokens (length text) (after_mark (chars text)) (map (token_of names) toks))
-    where
-  pub toks_start : IsUtf8 text → All (λ tok. IsStart text tok.at) toks
-  toks_start utf8 =
-      each_tok names (λ t. IsStart text t.at) (λ tok. IsStart text tok.at) (λ tok h. h) toks (starts text utf8 cut (ends_mark (chars text)))
+  where
+    pub toks_start : IsUtf8 text → All (λ tok. IsStart text tok.at) toks
+    toks_start utf8 =
+        each_tok names (λ t. IsStart text t.at) (λ tok. IsStart text tok.at) (λ tok h. h) toks (starts text utf8 cut (ends_mark (chars text)))
 
-  pub toks_plain : All (λ tok. IsNoArg tok.kind) toks
-  toks_plain = each_tok names (λ t. IsPlain t.sign) (λ tok. IsNoArg tok.kind) (λ tok h. no_arg names tok.kind h) toks (all_plain cut)
+    pub toks_plain : All (λ tok. IsNoArg tok.kind) toks
+    toks_plain = each_tok names (λ t. IsPlain t.sign) (λ tok. IsNoArg tok.kind) (λ tok h. no_arg names tok.kind h) toks (all_plain cut)

@@ -25,7 +25,7 @@ line_found text i j utf8 ((front, is, none), at) =
     ∙ ap (λ (r : List ℕ). take i text ++ r) (sym at.split)
     ∙ take-append-drop i text in
     let same : chars text ≡ front ++ 10 ∷ chars (drop j text) = encodes_same (chars text) (front ++ 10 ∷ chars (drop j text)) (encodes-chars text utf8
-            ∙ sym whole) in
+    ∙ sym whole) in
     sym (ap (after_first is_line_end) same ∙ first_after is_line_end front (chars (drop j text)) 10 none refl)
 
 pub line_after : (text before after : List ℕ) → IsUtf8 text → SplitsAroundMatch (FindsChar 10) text before after
@@ -49,7 +49,7 @@ module _ (text after : List ℕ) (utf8 : IsUtf8 text) (after_utf8 : IsUtf8 after
       ∙ ap encode_utf8_all (sym (take-append-drop (prefix_len is_letter (chars text)) (chars text)))
       ∙ encodes-append (letters_of (chars text)) (after_word (chars text))
       ∙ ap (λ (r : List ℕ). r ++ encode_utf8_all (after_word (chars text))) (encodes-IsAscii (letters_of (chars text))
-          (letters_are_ascii (chars text)))
+      (letters_are_ascii (chars text)))
       ∙ ap (λ (r : List ℕ). letters_of (chars text) ++ encode_utf8_all r) (sym is)
       ∙ ap (λ (r : List ℕ). letters_of (chars text) ++ r) (encodes-chars after after_utf8)
 
@@ -63,9 +63,9 @@ module _ (text after : List ℕ) (utf8 : IsUtf8 text) (after_utf8 : IsUtf8 after
   pub letters_taken : take (length text - length after) text ≡ letters_of (chars text)
   letters_taken =
       ap (λ (n : ℕ). take n text) letters_count ∙ ap (take (length (letters_of (chars text)))) letters_first
-          ∙ take-append_seam (letters_of (chars text)) after
+      ∙ take-append_seam (letters_of (chars text)) after
 
   pub letters_dropped : drop (length text - length after) text ≡ after
   letters_dropped =
       ap (λ (n : ℕ). drop n text) letters_count ∙ ap (drop (length (letters_of (chars text)))) letters_first
-          ∙ drop-append_seam (letters_of (chars text)) after
+      ∙ drop-append_seam (letters_of (chars text)) after

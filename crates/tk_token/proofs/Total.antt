@@ -39,8 +39,8 @@ module _ (n : ℕ) where
           by_test : (l : Bool) → is_letter c ≡ l → Some_tokens n (92 ∷ c ∷ more)
           by_test true f =
               let t = go (after_gap (after_word (c ∷ more))) (no_longer (c ∷ more) (after_gap (after_word (c ∷ more)))
-                      (ends_gap (c ∷ more) false (after_word (c ∷ more)) (ends_drop (c ∷ more) (c ∷ more) (prefix_len is_letter (c ∷ more))
-                      (ends_all (c ∷ more))))) in
+              (ends_gap (c ∷ more) false (after_word (c ∷ more)) (ends_drop (c ∷ more) (c ∷ more) (prefix_len is_letter (c ∷ more))
+              (ends_all (c ∷ more))))) in
               (_, word f t.1)
           by_test false f = let t = go more (omega arith) in (_, symbol f e t.1)
 

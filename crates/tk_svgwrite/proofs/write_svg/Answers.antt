@@ -24,8 +24,8 @@ returns c =
     let is = c.as_slice-items.ensures in
     let all : length items ≤ c.loop-item.item-index = omega arith in
     let text : c.extend_from_slice-2.new.self.items ≡ document_text c.args.drawing.now = document_written _ _ _ _ c.args.drawing.now items
-            c.loop-item.item-index (c.in_ok-extend_from_slice.ensures.items ∙ ap (λ w. w ++ codes "<?xml version=\"1.0\" encoding=\"UTF-8\"?>\n")
-            c.in_ok-out.ensures.items) c.in_ok-put_svg.ensures.text is all c.loop-item.invariant.text c.in_ok-extend_from_slice-2.ensures.items in
+    c.loop-item.item-index (c.in_ok-extend_from_slice.ensures.items ∙ ap (λ w. w ++ codes "<?xml version=\"1.0\" encoding=\"UTF-8\"?>\n")
+    c.in_ok-out.ensures.items) c.in_ok-put_svg.ensures.text is all c.loop-item.invariant.text c.in_ok-extend_from_slice-2.ensures.items in
     let range = subst (All ItemInRange) (take_all c.loop-item.item-index items all ∙ is) c.loop-item.invariant.range in
     record {
       text = text;

@@ -14,5 +14,11 @@ pub returns-in-None : goal.returns-in-None
 returns-in-None g c =
     let before = world (g.H.Shelf.meaning c.args.shelf.now) (g.O.Sink.meaning c.args.out.now) (g.E.Sink.meaning c.args.err.now) in
     let after = world (g.H.Shelf.meaning c.args.shelf.now) (g.O.Sink.meaning c.args.out.now) (g.E.Sink.meaning c.say.new.err) in
-    subst (λ asked. EndsAsAsked asked before after Usage) c.in-None.ensures.command (refl, record { unopened = refl; says = c.say.ensures;
-        untouched = refl })
+    subst (λ asked. EndsAsAsked asked before after Usage) c.in-None.ensures.command (
+      refl,
+      record {
+        unopened = refl;
+        says = c.say.ensures;
+        untouched = refl;
+      },
+    )

@@ -12,7 +12,7 @@ returns-in-Ok-clause-status g c =
     c.as_slice.result.now
     c.deliver.result
     (subst (λ (bytes : List ℕ). IsDocumentOf c.args.file.now c.args.budget (g.H.Shelf.meaning c.args.shelf.now)
-        (g.H.Shelf.meaning c.document_of.new.shelf) bytes) (sym c.as_slice.ensures.value) c.in-Ok.ensures.document)
+    (g.H.Shelf.meaning c.document_of.new.shelf) bytes) (sym c.as_slice.ensures.value) c.in-Ok.ensures.document)
     c.deliver.ensures
 
 pub returns-in-Err-clause-status : goal.returns-in-Err-clause-status

@@ -10,4 +10,4 @@ returns g c =
     let before = world (g.H.Shelf.meaning c.args.shelf.now) (g.O.Sink.meaning c.args.out.now) (g.E.Sink.meaning c.args.err.now) in
     let after = world (g.H.Shelf.meaning c.answer.new.shelf) (g.O.Sink.meaning c.answer.new.out) (g.E.Sink.meaning c.answer.new.err) in
     subst (λ (n : ℕ). Runs asked before after n) (sym (tag_is c.answer.result)) (run_of c.a_source_has_one_outcome.ensures asked before after
-        c.answer.result c.answer.ensures)
+    c.answer.result c.answer.ensures)

@@ -8,13 +8,13 @@ returns-then-words-ne2-clause-command c = not_two (string_bytes {Z = Global}) c.
 pub returns-then-is_render-clause-command : goal.returns-then-is_render-clause-command
 returns-then-is_render-clause-command c =
     two_words_ask (string_bytes {Z = Global}) c.args.words.now c.index-words-0.result c.index-words-1.result c.as_str-word.result.now
-        c.as_str-file.result.now
+    c.as_str-file.result.now
     c.if-words-ne2.false c.index-words-0.is c.index-words-1.is c.as_str-word.ensures.value c.as_str-file.ensures.value (sym c.is_render.ensures
-        ∙ c.if-is_render.true)
+    ∙ c.if-is_render.true)
 
 pub returns-else-is_render-clause-command : goal.returns-else-is_render-clause-command
 returns-else-is_render-clause-command c =
     asks_nothing (string_bytes {Z = Global}) c.args.words.now c.index-words-0.result c.index-words-1.result c.as_str-word.result.now
-        c.as_str-file.result.now
+    c.as_str-file.result.now
     c.if-words-ne2.false c.index-words-0.is c.index-words-1.is c.as_str-word.ensures.value c.as_str-file.ensures.value (sym c.is_render.ensures
-        ∙ c.if-is_render.false)
+    ∙ c.if-is_render.false)

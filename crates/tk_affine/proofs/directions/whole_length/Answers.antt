@@ -23,8 +23,8 @@ returns-clause-value c =
 pub returns-clause-most : goal.returns-clause-most
 returns-clause-most c =
     let x : c.from-x.result ≡ unsigned_abs c.args.x = c.from-x.ensures ∙ c.unsigned_abs.ensures.value
-            ∙ ap unsigned_abs (to_z-of_z w64 c.args.x c.ranges.x) in
+    ∙ ap unsigned_abs (to_z-of_z w64 c.args.x c.ranges.x) in
     let y : c.from-y.result ≡ unsigned_abs c.args.y = c.from-y.ensures ∙ c.unsigned_abs-2.ensures.value
-            ∙ ap unsigned_abs (to_z-of_z w64 c.args.y c.ranges.y) in
+    ∙ ap unsigned_abs (to_z-of_z w64 c.args.y c.ranges.y) in
     root_most c.from-x.result c.from-y.result c.isqrt.result (omega (arith, x, c.requires.x)) (omega (arith, y, c.requires.y))
-        c.isqrt.ensures.square_le
+    c.isqrt.ensures.square_le

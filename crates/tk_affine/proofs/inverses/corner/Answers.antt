@@ -13,11 +13,11 @@ returns c =
     let p = c.args.p in
     let q = c.args.q in
     let dx : to_z w64 (of_z w64 c.difference.result) ≡ q.x -ℤ p.x = to_z-of_z w64 c.difference.result (record { sfits = c.difference.type_inv })
-            ∙ c.difference.ensures.value in
+    ∙ c.difference.ensures.value in
     let dy : to_z w64 (of_z w64 c.difference-2.result) ≡ q.y -ℤ p.y = to_z-of_z w64 c.difference-2.result (record { sfits = c.difference-2.type_inv })
-            ∙ c.difference-2.ensures.value in
+    ∙ c.difference-2.ensures.value in
     let whole : to_z w64 (of_z w64 c.determinant-whole.result) ≡ determinant m = to_z-of_z w64 c.determinant-whole.result
-            (record { sfits = c.determinant-whole.type_inv }) ∙ c.determinant-whole.ensures.value in
+    (record { sfits = c.determinant-whole.type_inv }) ∙ c.determinant-whole.ensures.value in
     let part : to_z w64 (of_z w64 c.along_first-part.result) ≡ along_first m (q.x -ℤ p.x) (q.y -ℤ p.y) =
     to_z-of_z w64 c.along_first-part.result (record { sfits = c.along_first-part.type_inv })
     ∙ c.along_first-part.ensures.value
@@ -29,11 +29,13 @@ returns c =
     to_z-of_z w128 c.moved-x.result (record { sfits = c.moved-x.type_inv })
     ∙ c.moved-x.ensures
     ∙ ap (λ z. p.x +ℤ z) (share_is c.sp.result c.along_first-part.result c.determinant-whole.result _ _ _ c.share.result
-        (record { sfits = c.share.type_inv }) a part whole c.share.ensures.value) in
+    (record { sfits = c.share.type_inv }) a part whole c.share.ensures.value) in
     let y : to_z w128 (of_z w128 c.moved-y.result) ≡ p.y +ℤ share m m.b (along_first m (q.x -ℤ p.x) (q.y -ℤ p.y)) =
     to_z-of_z w128 c.moved-y.result (record { sfits = c.moved-y.type_inv })
     ∙ c.moved-y.ensures
     ∙ ap (λ z. p.y +ℤ z) (share_is c.sp-2.result c.along_first-part.result c.determinant-whole.result _ _ _ c.share-2.result
-        (record { sfits = c.share-2.type_inv }) b part whole c.share-2.ensures.value) in
-    record { gives = c.point.ensures ∙ same_point _ _ _ _ x y ∙ found_by_inverse m _ c.determinant-whole.result c.determinant-whole.ensures.value
-        c.if-whole-eq0.false }
+    (record { sfits = c.share-2.type_inv }) b part whole c.share-2.ensures.value) in
+    record {
+      gives = c.point.ensures ∙ same_point _ _ _ _ x y ∙ found_by_inverse m _ c.determinant-whole.result c.determinant-whole.ensures.value
+          c.if-whole-eq0.false;
+    }

@@ -11,11 +11,11 @@ unfolding inverse_image
 returns c =
     let m = c.args.m in
     let dx : to_z w64 (of_z w64 c.difference-dx.result) ≡ c.args.p.x -ℤ m.tx = to_z-of_z w64 c.difference-dx.result
-            (record { sfits = c.difference-dx.type_inv }) ∙ c.difference-dx.ensures.value in
+    (record { sfits = c.difference-dx.type_inv }) ∙ c.difference-dx.ensures.value in
     let dy : to_z w64 (of_z w64 c.difference-dy.result) ≡ c.args.p.y -ℤ m.ty = to_z-of_z w64 c.difference-dy.result
-            (record { sfits = c.difference-dy.type_inv }) ∙ c.difference-dy.ensures.value in
+    (record { sfits = c.difference-dy.type_inv }) ∙ c.difference-dy.ensures.value in
     let whole : to_z w64 (of_z w64 c.determinant-whole.result) ≡ determinant m = to_z-of_z w64 c.determinant-whole.result
-            (record { sfits = c.determinant-whole.type_inv }) ∙ c.determinant-whole.ensures.value in
+    (record { sfits = c.determinant-whole.type_inv }) ∙ c.determinant-whole.ensures.value in
     let first : to_z w64 (of_z w64 c.along_first.result) ≡ along_first m (c.args.p.x -ℤ m.tx) (c.args.p.y -ℤ m.ty) =
     to_z-of_z w64 c.along_first.result (record { sfits = c.along_first.type_inv })
     ∙ c.along_first.ensures.value
@@ -28,9 +28,11 @@ returns c =
     ∙ ap (λ z. along_second m (c.args.p.x -ℤ m.tx) z) dy in
     let x : to_z w128 (of_z w128 c.share-x.result) ≡ share m (pos 65536) (along_first m (c.args.p.x -ℤ m.tx) (c.args.p.y -ℤ m.ty)) =
     share_is (pos 65536) c.along_first.result c.determinant-whole.result _ _ _ c.share-x.result (record { sfits = c.share-x.type_inv }) refl first
-        whole c.share-x.ensures.value in
+    whole c.share-x.ensures.value in
     let y : to_z w128 (of_z w128 c.share-y.result) ≡ share m (pos 65536) (along_second m (c.args.p.x -ℤ m.tx) (c.args.p.y -ℤ m.ty)) =
     share_is (pos 65536) c.along_second.result c.determinant-whole.result _ _ _ c.share-y.result (record { sfits = c.share-y.type_inv }) refl second
-        whole c.share-y.ensures.value in
-    record { gives = c.point.ensures ∙ same_point _ _ _ _ x y ∙ found_by_inverse m _ c.determinant-whole.result c.determinant-whole.ensures.value
-        c.if-whole-eq0.false }
+    whole c.share-y.ensures.value in
+    record {
+      gives = c.point.ensures ∙ same_point _ _ _ _ x y ∙ found_by_inverse m _ c.determinant-whole.result c.determinant-whole.ensures.value
+          c.if-whole-eq0.false;
+    }

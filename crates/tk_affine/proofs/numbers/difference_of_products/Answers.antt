@@ -18,12 +18,15 @@ product_is a x la lx = wrapped_product a x 1073741823 2147483646 la lx (omega ar
 pub overflow_sub-result : goal.overflow_sub-result
 overflow_sub-result c =
     rw (product_is c.sp.result c.args.x c.sp.ensures.range c.requires.x, product_is c.sp-2.result c.args.y c.sp-2.ensures.range c.requires.y)
-    (fits_signed_from_abs w64 _ (omega (arith, small c.sp.result c.args.x c.sp-2.result c.args.y c.sp.ensures.range c.requires.x c.sp-2.ensures.range
-        c.requires.y)))
+    (fits_signed_from_abs w64 _ (omega (
+      arith,
+      small c.sp.result c.args.x c.sp-2.result c.args.y c.sp.ensures.range c.requires.x c.sp-2.ensures.range
+          c.requires.y,
+    )))
 
 value_is : (a x b y : ℤ) → IsScaled a → unsigned_abs x ≤ 2147483646 → IsScaled b → unsigned_abs y ≤ 2147483646
     → to_z w64 (of_z w64 (to_z w64 (of_z w64 (to_z w64 (of_z w64 a) *ℤ to_z w64 (of_z w64 x)))
-        -ℤ to_z w64 (of_z w64 (to_z w64 (of_z w64 b) *ℤ to_z w64 (of_z w64 y))))) ≡ a *ℤ x -ℤ b *ℤ y
+    -ℤ to_z w64 (of_z w64 (to_z w64 (of_z w64 b) *ℤ to_z w64 (of_z w64 y))))) ≡ a *ℤ x -ℤ b *ℤ y
 value_is a x b y la lx lb ly =
     ap (λ z. to_z w64 (of_z w64 (z -ℤ to_z w64 (of_z w64 (to_z w64 (of_z w64 b) *ℤ to_z w64 (of_z w64 y)))))) (product_is a x la lx)
     ∙ ap (λ z. to_z w64 (of_z w64 (a *ℤ x -ℤ z))) (product_is b y lb ly)

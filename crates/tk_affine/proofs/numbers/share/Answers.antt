@@ -6,7 +6,7 @@ use Rattle.tk_affine.proofs.numbers.share.Goals as goal
 
 share_is : (x y z a b d : ℤ) → x ≡ a → y ≡ b → z ≡ d → unsigned_abs a ≤ 1073741823 → unsigned_abs b ≤ 4611686009837453316 → unsigned_abs d ≤ 2 ^ 63
     → to_z w128 (of_z w128 (int_div (to_z w128 (of_z w128 (to_z w128 (of_z w128 x) *ℤ to_z w128 (of_z w128 y)))) (to_z w128 (of_z w128 z))))
-        ≡ int_div (a *ℤ b) d
+    ≡ int_div (a *ℤ b) d
 share_is x y z a b d ex ey ez la lb ld = rw (ex, ey, ez) (wide_share a b d la lb ld)
 
 pub returns-clause-value : goal.returns-clause-value

@@ -5,17 +5,20 @@ use Rattle.tk_affine.proofs.numbers.sum_of_products.Goals as goal
 
 pub overflow_add-result : goal.overflow_add-result
 overflow_add-result c =
-    rw (wrapped_mul c.sp.result c.sp-2.result c.sp.ensures.range c.sp-2.ensures.range, wrapped_mul c.sp-3.result c.sp-4.result c.sp-3.ensures.range
-        c.sp-4.ensures.range)
+    rw (
+      wrapped_mul c.sp.result c.sp-2.result c.sp.ensures.range c.sp-2.ensures.range,
+      wrapped_mul c.sp-3.result c.sp-4.result c.sp-3.ensures.range
+          c.sp-4.ensures.range,
+    )
     (sum_fits (c.sp.result *ℤ c.sp-2.result) (c.sp-3.result *ℤ c.sp-4.result) (product_small c.sp.result c.sp-2.result c.sp.ensures.range
-        c.sp-2.ensures.range) (product_small c.sp-3.result c.sp-4.result c.sp-3.ensures.range c.sp-4.ensures.range))
+    c.sp-2.ensures.range) (product_small c.sp-3.result c.sp-4.result c.sp-3.ensures.range c.sp-4.ensures.range))
 
 pub returns-clause-value : goal.returns-clause-value
 returns-clause-value c =
     let p = product_small c.sp.result c.sp-2.result c.sp.ensures.range c.sp-2.ensures.range in
     let q = product_small c.sp-3.result c.sp-4.result c.sp-3.ensures.range c.sp-4.ensures.range in
     wrapped_add _ _ (c.sp.result *ℤ c.sp-2.result) (c.sp-3.result *ℤ c.sp-4.result) (wrapped_mul c.sp.result c.sp-2.result c.sp.ensures.range
-        c.sp-2.ensures.range) (wrapped_mul c.sp-3.result c.sp-4.result c.sp-3.ensures.range c.sp-4.ensures.range) p q
+    c.sp-2.ensures.range) (wrapped_mul c.sp-3.result c.sp-4.result c.sp-3.ensures.range c.sp-4.ensures.range) p q
     ∙ ap (λ z. z *ℤ c.sp-2.result +ℤ c.sp-3.result *ℤ c.sp-4.result) c.sp.ensures.value
     ∙ ap (λ z. c.args.a *ℤ z +ℤ c.sp-3.result *ℤ c.sp-4.result) c.sp-2.ensures.value
     ∙ ap (λ z. c.args.a *ℤ c.args.x +ℤ z *ℤ c.sp-4.result) c.sp-3.ensures.value
@@ -26,5 +29,5 @@ returns-clause-within c =
     let p = product_small c.sp.result c.sp-2.result c.sp.ensures.range c.sp-2.ensures.range in
     let q = product_small c.sp-3.result c.sp-4.result c.sp-3.ensures.range c.sp-4.ensures.range in
     let value = wrapped_add _ _ (c.sp.result *ℤ c.sp-2.result) (c.sp-3.result *ℤ c.sp-4.result) (wrapped_mul c.sp.result c.sp-2.result
-            c.sp.ensures.range c.sp-2.ensures.range) (wrapped_mul c.sp-3.result c.sp-4.result c.sp-3.ensures.range c.sp-4.ensures.range) p q in
+    c.sp.ensures.range c.sp-2.ensures.range) (wrapped_mul c.sp-3.result c.sp-4.result c.sp-3.ensures.range c.sp-4.ensures.range) p q in
     rw value (omega (arith, p, q, sum_bound (c.sp.result *ℤ c.sp-2.result) (c.sp-3.result *ℤ c.sp-4.result)))

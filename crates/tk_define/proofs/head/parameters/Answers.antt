@@ -11,25 +11,25 @@ use Rattle.tk_define.proofs.head.parameters.Goals as goal
 pub returns-in_err-tok-clause-gives : goal.returns-in_err-tok-clause-gives
 returns-in_err-tok-clause-gives c =
     let e = fails_next c.loop-count.count c.loop-count.input _ c.loop-count.invariant.told c.loop-count-test.true c.in_err-tok.field-0.0
-            c.in_err-tok.ensures.gives in
+    c.in_err-tok.ensures.gives in
     search rules
 
 pub returns-in_err-expect_char-in-Param-clause-gives : goal.returns-in_err-expect_char-in-Param-clause-gives
 returns-in_err-expect_char-in-Param-clause-gives c =
     let same = ap (λ (n : ℕ). after_token MacroSyntax (is_char n) c.token.new.self) (sym c.character.ensures) in
     let e = fails_digit c.loop-count.count c.loop-count.input _ c.loop-count.invariant.told c.loop-count-test.true c.in_ok-tok.tok c.token.new.self
-            c.in_ok-tok.ensures.gives c.in-Param.is c.in_err-expect_char-in-Param.field-0.0 (same ∙ c.in_err-expect_char-in-Param.ensures.gives) in
+    c.in_ok-tok.ensures.gives c.in-Param.is c.in_err-expect_char-in-Param.field-0.0 (same ∙ c.in_err-expect_char-in-Param.ensures.gives) in
     search rules
 
 pub returns-in-Open-clause-gives : goal.returns-in-Open-clause-gives
 returns-in-Open-clause-gives c =
     opens c.loop-count.count c.loop-count.input _ c.loop-count.invariant.told c.loop-count-test.true c.in_ok-tok.tok c.token.new.self
-        c.in_ok-tok.ensures.gives c.in-Open.is
+    c.in_ok-tok.ensures.gives c.in-Open.is
 
 pub returns-in_default-clause-gives : goal.returns-in_default-clause-gives
 returns-in_default-clause-gives c =
     misfits c.loop-count.count c.loop-count.input _ c.loop-count.invariant.told c.loop-count-test.true c.in_ok-tok.tok c.token.new.self
-        c.in_ok-tok.ensures.gives c.in_default.not-Param c.in_default.not-Open
+    c.in_ok-tok.ensures.gives c.in_default.not-Param c.in_default.not-Open
     ∙ ap (λ (f : Fault). (let a : Answer (Read ℕ) = Err f in a)) (sym c.misfit.ensures)
 
 pub loop-count-preserved : goal.loop-count-preserved
@@ -45,10 +45,10 @@ loop-count-preserved c =
 pub returns-in_err-expect_open-clause-gives : goal.returns-in_err-expect_open-clause-gives
 returns-in_err-expect_open-clause-gives c =
     let e = at_nine c.loop-count.count c.loop-count.input _ c.loop-count.invariant.told (omega arith) (omega arith)
-            ∙ then_fault _ (λ inside. Ok (read 9 inside)) c.in_err-expect_open.field-0.0 c.in_err-expect_open.ensures.gives in
+    ∙ then_fault _ (λ inside. Ok (read 9 inside)) c.in_err-expect_open.field-0.0 c.in_err-expect_open.ensures.gives in
     search rules
 
 pub returns-clause-gives : goal.returns-clause-gives
 returns-clause-gives c =
     at_nine c.loop-count.count c.loop-count.input _ c.loop-count.invariant.told (omega arith) (omega arith) ∙ then_is _ (λ inside. Ok (read 9 inside))
-        c.expect_open.new.self c.in_ok-expect_open.ensures.gives
+    c.expect_open.new.self c.in_ok-expect_open.ensures.gives

@@ -10,5 +10,5 @@ pub returns-in_err-cost : goal.returns-in_err-cost
 returns-in_err-cost c =
     let unread : Tok = record { kind = Char 0; at = 0 } in
     let within = length-flat_map-take (λ (t : Tok). put_in (texts_of c.args.arguments.now) t.kind t) c.args.body.now c.loop-tok.tok-index unread
-            c.loop-tok-test.true in
+    c.loop-tok-test.true in
     rw c.from_residual.ensures (omega (arith, within, ap length c.put_in.ensures, c.loop-tok.invariant, c.in_err-cost.ensures))

@@ -13,4 +13,4 @@ returns-then-is_expanded-clause-gives c = λ end.
 pub returns-clause-gives : goal.returns-clause-gives
 returns-clause-gives c = λ end.
     moved_gives c.args.units.now.budget c.args.store.now.top.macros c.args.units.now.used c.expand_by_one.new.units.used c.args.list.items
-        c.in_ok-from_vec.field-0 c.expand_by_one.result c.in_ok-from_vec.ensures c.expand_by_one.ensures.gives end
+    c.in_ok-from_vec.field-0 c.expand_by_one.result c.in_ok-from_vec.ensures c.expand_by_one.ensures.gives end

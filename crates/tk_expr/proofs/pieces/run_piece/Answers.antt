@@ -13,4 +13,4 @@ pub returns-clause-pieces : goal.returns-clause-pieces
 returns-clause-pieces c =
     let list : List Tok = c.args.list.now in
     rw (c.run_mark-mark.ensures, c.split_at.ensures.front, c.split_at.ensures.back) (letters_in_front list c.args.first c.requires.front.0
-        c.letters_len.result c.requires.front.1 c.requires.letter c.letters_len.ensures.value)
+    c.letters_len.result c.requires.front.1 c.requires.letter c.letters_len.ensures.value)

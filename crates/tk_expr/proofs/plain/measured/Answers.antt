@@ -13,4 +13,4 @@ returns-in-Measure c =
     let tail = c.in-Some.tail.now in
     let none : length tail ≡ 0 = grind (arith, nat_tests) in
     unit_ends c.args.font.now c.args.decimal c.args.list.now tail c.in-Some.first c.in-Measure.unit c.unit_value.result c.in-Some.ensures.pieces
-        (nil_from_length tail none) c.in-Measure.is c.unit_value.ensures
+    (nil_from_length tail none) c.in-Measure.is c.unit_value.ensures

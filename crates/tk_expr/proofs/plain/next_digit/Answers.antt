@@ -18,5 +18,5 @@ returns-in-Point-clause-goes c = λ negative font.
     let all = pieces_of c.args.list.now in
     let rest = pieces_of c.in_ok-first.tail.now in
     point_more c.in_ok-first.first rest all c.in_ok-first.ensures.pieces c.args.decimal c.in-Point.is (sym c.is_pointed.ensures
-        ∙ c.if-not-is_pointed.true) negative font
+    ∙ c.if-not-is_pointed.true) negative font
     ∙ ap (λ (n : Decimal). run font (counting n negative) rest) (sym c.with_point.ensures)

@@ -13,7 +13,7 @@ returns-in-Digit c =
     let rest = pieces_of c.in_ok-first.tail.now in
     let is = c.with_digit.ensures ∙ ap (with_digit c.in-Digit.digit) c.new.ensures in
     let same = λ (negative : Bool). digit_goes c.in_ok-first.first rest all c.in_ok-first.ensures.pieces c.in-Digit.digit c.in-Digit.is negative font
-            ∙ ap (λ (n : Decimal). run font (counting n negative) rest) (sym is) in
+    ∙ ap (λ (n : Decimal). run font (counting n negative) rest) (sym is) in
     ends_from font wanting (counting c.with_digit.result) c.args.list.now c.in_ok-first.tail.now same c.longer.result c.longer.ensures
 
 pub returns-in-Point : goal.returns-in-Point

@@ -10,7 +10,7 @@ returns-clause-value c =
     let quarter : c.quarter_of.result ≡ int_div (c.args.b -ℤ c.args.a) (pos (4 * c.args.n)) =
     c.quarter_of.ensures.value
     ∙ ap (λ z. int_div z (pos (4 * c.args.n))) (to_z-of_z w64 c.difference.result (record { sfits = c.difference.type_inv })
-        ∙ c.difference.ensures.value) in
+    ∙ c.difference.ensures.value) in
     c.within.ensures
     ∙ four_thirds c.sp.result c.small_tangent-tangent.result c.sp.ensures.value c.small_tangent-tangent.ensures.within
     ∙ ap (λ z. int_div (pos 4 *ℤ z) (pos 3)) (c.small_tangent-tangent.ensures.value ∙ ap small_tangent quarter)

@@ -9,7 +9,7 @@ use Rattle.tk_geom.proofs.arcs.push_arc.Goals as goal
 pub returns-then-count-eq0-clause-gives : goal.returns-then-count-eq0-clause-gives
 returns-then-count-eq0-clause-gives c =
     ap (appended c.args.segs.now) (no_pieces_no_arc c.args.m c.args.c c.args.a c.args.b c.args.rx c.args.ry (sym c.piece_count-count.ensures.value
-        ∙ c.if-count-eq0.true))
+    ∙ c.if-count-eq0.true))
     ∙ ap (λ (all : List Seg). let r : Result (List Seg) AffFault = Ok all in r) (append-nil c.args.segs.now)
 
 pub returns-in-Ok-clause-gives : goal.returns-in-Ok-clause-gives

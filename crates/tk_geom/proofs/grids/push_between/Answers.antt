@@ -19,7 +19,7 @@ returns-in_err-push_lines-2-clause-gives c =
     rw (p.1, p.2) (
     fails_as c.in_err-push_lines-2.field-0.0 _ _
     (both_drawn c.args.m.now c.args.units.now.budget c.args.at c.args.units.now.used c.push_lines.new.units.used
-        (lines_of c.lines_about-uprights.result) _
+    (lines_of c.lines_about-uprights.result) _
     (lines_of c.lines_about-levels.result) _ c.args.segs.now c.push_lines.new.segs c.lines_about-uprights.ensures.value
     c.lines_about-levels.ensures.value c.in_ok-push_lines.ensures.gives)
     (subst (λ b. Fails c.in_err-push_lines-2.field-0.0
@@ -29,7 +29,7 @@ returns-in_err-push_lines-2-clause-gives c =
 pub returns-clause-gives : goal.returns-clause-gives
 returns-clause-gives c =
     both_drawn c.args.m.now c.args.units.now.budget c.args.at c.args.units.now.used c.push_lines.new.units.used
-        (lines_of c.lines_about-uprights.result) _
+    (lines_of c.lines_about-uprights.result) _
     (lines_of c.lines_about-levels.result) _ c.args.segs.now c.push_lines.new.segs c.lines_about-uprights.ensures.value
     c.lines_about-levels.ensures.value c.in_ok-push_lines.ensures.gives
     ∙ subst (λ b. grid_appended c.push_lines.new.segs

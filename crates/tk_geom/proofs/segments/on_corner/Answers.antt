@@ -15,5 +15,5 @@ pub returns-else-t-lt32768-clause-value : goal.returns-else-t-lt32768-clause-val
 returns-else-t-lt32768-clause-value c =
     let twice : in64 (in64 (pos 2 *ℤ in64 c.args.t) -ℤ pos 65536) ≡ pos 2 *ℤ c.args.t -ℤ pos 65536 = omega (arith, ints) in
     let test : int_lt c.args.t (pos 32768) ≡ false = ap (λ z. int_lt z (pos 32768)) (sym (to_z-of_z w64 c.args.t c.ranges.t))
-            ∙ c.if-t-lt32768.false in
+    ∙ c.if-t-lt32768.false in
     c.on_line-else-t-lt32768.ensures.value ∙ ap (on_line c.args.corner.now c.args.q.now) twice ∙ rw test refl

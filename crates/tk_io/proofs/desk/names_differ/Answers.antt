@@ -16,9 +16,9 @@ returns-then-ne c = (
       let within : place < length files = omega arith in
       let named = c.as_str.ensures.value ∙ ap (λ (file : MemFile). string_bytes file.name) c.index-files-place.is in
       let first = c.place_in.ensures ∙ ap (λ (name : List ℕ). position (λ file. bytes_eq (string_bytes file.name) name) files) named
-              ∙ NamesDiffer-first files place c.index-files-place.result within differ in
+      ∙ NamesDiffer-first files place c.index-files-place.result within differ in
       let same : c.ne.result ≡ false = c.ne.ensures ∙ ap (λ (o : Option ℕ). not (option_eq nat_eq o (Some place))) first
-              ∙ ap not (eq-eqb place place refl) in
+      ∙ ap not (eq-eqb place place refl) in
       absurd (false≢true (sym same ∙ c.if-ne.true)),
 )
 

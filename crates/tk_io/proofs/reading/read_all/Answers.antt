@@ -16,7 +16,7 @@ pub returns-then-count-eq0 : goal.returns-then-count-eq0
 returns-then-count-eq0 g c =
     let so_far = c.loop-buffer.invariant.so_far in
     let read = subst (λ (n : ℕ). Reads c.args.name.now (g.H.Shelf.meaning c.loop-buffer.shelf) (g.H.Shelf.meaning c.read.new.self) (Ok n)
-            c.read.new.buf) c.if-count-eq0.true (c.in_ok-count.ensures c.args.name.now so_far.is_open) in
+    c.read.new.buf) c.if-count-eq0.true (c.in_ok-count.ensures c.args.name.now so_far.is_open) in
     let room : length c.read.new.buf ≡ c.min-room.result = c.read.auto.buf ∙ omega (arith, length-take c.min-room.result c.loop-buffer.buffer) in
     ReadsAll-end _ _ _ _ _ _ so_far read (omega arith) (omega (arith, room))
 
@@ -25,17 +25,27 @@ loop-buffer-preserved g c =
     let so_far = c.loop-buffer.invariant.so_far in
     let read = c.in_ok-count.ensures c.args.name.now so_far.is_open in
     let bytes = taken_bytes_appended _ c.loop-buffer.bytes.items c.read.new.buf (drop c.min-room.result c.loop-buffer.buffer) c.in_ok-count.count
-            read.bound c.in_ok-extend_from_slice.ensures.items in
+    read.bound c.in_ok-extend_from_slice.ensures.items in
     let len : length c.extend_from_slice.new.self.items ≡ length c.loop-buffer.bytes.items + c.in_ok-count.count = ap length bytes
-            ∙ omega (arith, length-append c.loop-buffer.bytes.items (take c.in_ok-count.count c.read.new.buf), length-take c.in_ok-count.count
-            c.read.new.buf, read.bound) in
+    ∙ omega (
+      arith,
+      length-append c.loop-buffer.bytes.items (take c.in_ok-count.count c.read.new.buf),
+      length-take c.in_ok-count.count
+          c.read.new.buf,
+      read.bound,
+    ) in
     let room : length c.read.new.buf ≡ c.min-room.result = c.read.auto.buf ∙ omega (arith, length-take c.min-room.result c.loop-buffer.buffer) in
     record {
       so_far = subst (λ (w : List ℕ). SoFar c.args.name.now (g.H.Shelf.meaning c.args.shelf.now) w (g.H.Shelf.meaning c.read.new.self)) (sym bytes)
           (SoFar-more _ _ _ _ _ _ _ so_far read c.if-count-eq0.false (omega (arith, room, read.bound)));
       most = omega (arith, len, room, read.bound);
-      wide = omega (arith, room, length-append c.read.new.buf (drop c.min-room.result c.loop-buffer.buffer), length-drop c.min-room.result
-          c.loop-buffer.buffer);
+      wide = omega (
+        arith,
+        room,
+        length-append c.read.new.buf (drop c.min-room.result c.loop-buffer.buffer),
+        length-drop c.min-room.result
+            c.loop-buffer.buffer,
+      );
     }
 
 pub returns-in_err-extend_from_slice : goal.returns-in_err-extend_from_slice

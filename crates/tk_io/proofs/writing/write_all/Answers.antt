@@ -10,7 +10,7 @@ loop-done-preserved g c =
     let new = g.O.Sink.meaning c.write.new.self in
     let rest = drop c.loop-done.done c.args.piece.now in
     let written = subst (λ (w : List ℕ). Writes w mid new (Ok c.in_ok-done.field-0)) (take_all (length c.args.piece.now - c.loop-done.done) rest
-            (omega (arith, length-drop c.loop-done.done c.args.piece.now))) c.in_ok-done.ensures in
+    (omega (arith, length-drop c.loop-done.done c.args.piece.now))) c.in_ok-done.ensures in
     record {
       within = omega (arith, written.bound, length-drop c.loop-done.done c.args.piece.now);
       no_fall = omega (arith, c.loop-done.invariant.no_fall, written.no_fall);

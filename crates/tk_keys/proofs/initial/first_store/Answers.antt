@@ -18,7 +18,7 @@ returns c =
       macros = s.macros ∙ n.macros ∙ ap (λ (l : Levels). l.top.macros) new;
       keys = s.keys
           ∙ ap (λ (keys : Keys). with_entries keys (map (λ row. (tikz_path row.0, running (style_for c.args.also row.1))) styles)) (n.keys
-              ∙ ap (λ (l : Levels). with_entries l.top.keys (map (λ row. (tikz_path row.0, running (runs.Native row.1))) natives)) new)
+          ∙ ap (λ (l : Levels). with_entries l.top.keys (map (λ row. (tikz_path row.0, running (runs.Native row.1))) natives)) new)
           ∙ sym (entries_behind finmap.empty (map (λ row. (tikz_path row.0, running (runs.Native row.1))) natives)
-              (map (λ row. (tikz_path row.0, running (style_for c.args.also row.1))) styles));
+          (map (λ row. (tikz_path row.0, running (style_for c.args.also row.1))) styles));
     }

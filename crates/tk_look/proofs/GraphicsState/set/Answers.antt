@@ -9,4 +9,4 @@ use Rattle.tk_look.proofs.GraphicsState.set.Goals as goal
 pub returns : goal.returns
 returns c ev is =
     subst (λ (ev : Evaluation). Gives (λ _. c.set_by_machine.new.self) c.set_by_machine.result (spec.graphics_by c.args.at ev c.args.font c.args.key
-        c.args.name.now (option_copied c.args.value) c.args.self.now)) (is_evaluated ev is) c.set_by_machine.ensures
+    c.args.name.now (option_copied c.args.value) c.args.self.now)) (is_evaluated ev is) c.set_by_machine.ensures

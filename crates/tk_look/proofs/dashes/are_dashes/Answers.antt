@@ -10,21 +10,21 @@ returns-in_default c =
     let rest = c.loop.rest.now in
     let k = c.loop.counter in
     sym (c.loop.invariant ∙ ap (λ (n : ℕ). is_some (all_dashes n rest)) (dashes_left_counted k c.loop-test.true)
-        ∙ ap is_some (none_here rest (8 - (k + 1)) c.in_default.ensures))
+    ∙ ap is_some (none_here rest (8 - (k + 1)) c.in_default.ensures))
 
 pub returns-then-is_empty : goal.returns-then-is_empty
 returns-then-is_empty c =
     let rest = c.loop.rest.now in
     let k = c.loop.counter in
     sym (c.loop.invariant ∙ ap (λ (n : ℕ). is_some (all_dashes n rest)) (dashes_left_counted k c.loop-test.true)
-        ∙ ap is_some (last_here rest (8 - (k + 1)) (dash_seen c.in-Some.dash) c.in-Some.ensures (sym c.if-is_empty.ensures)))
+    ∙ ap is_some (last_here rest (8 - (k + 1)) (dash_seen c.in-Some.dash) c.in-Some.ensures (sym c.if-is_empty.ensures)))
 
 pub loop-preserved : goal.loop-preserved
 loop-preserved c =
     let rest = c.loop.rest.now in
     let k = c.loop.counter in
     c.loop.invariant ∙ ap (λ (n : ℕ). is_some (all_dashes n rest)) (dashes_left_counted k c.loop-test.true) ∙ more_are_there rest (8 - (k + 1))
-        (dash_seen c.in-Some.dash) c.in-Some.ensures (sym c.if-is_empty.ensures)
+    (dash_seen c.in-Some.dash) c.in-Some.ensures (sym c.if-is_empty.ensures)
 
 pub returns : goal.returns
 returns c = sym (c.loop.invariant ∙ none_left c.loop.counter c.loop.rest.now c.loop-test.false)

@@ -9,4 +9,4 @@ use Rattle.tk_look.proofs.keys.apply.Goals as goal
 pub returns : goal.returns
 returns c ev is =
     subst (λ (ev : Evaluation). Gives (λ steps. spec.stepping c.apply.new.self steps.items) c.apply.result (spec.native_applied c.args.at ev
-        c.args.font c.args.key c.args.name.now (option_copied c.args.value) c.args.look.now)) (is_evaluated ev is) c.apply.ensures
+    c.args.font c.args.key c.args.name.now (option_copied c.args.value) c.args.look.now)) (is_evaluated ev is) c.apply.ensures

@@ -10,5 +10,5 @@ returns-clause-value c =
     let angle : ℤ = c.sp.result in
     c.sine_of.ensures.value
     ∙ ap sine (wrapped_add _ _ angle (pos 5898240) (to_z-of_z w64 angle (fits_signed_64 angle (omega (arith, c.sp.ensures.range)))) refl
-        (omega (arith, c.sp.ensures.range)) (omega arith))
+    (omega (arith, c.sp.ensures.range)) (omega arith))
     ∙ ap cosine c.sp.ensures.value

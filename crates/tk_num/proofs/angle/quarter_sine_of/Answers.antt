@@ -19,5 +19,7 @@ overflow_mul-result c =
     omega (arith, product)
 
 pub returns-clause-within : goal.returns-clause-within
-returns-clause-within c = let within = quarter_within c.args.angle (omega (arith, c.requires, c.if-part-eq0.false)) in rw (c.table_sine-low.ensures,
-    c.table_sine.ensures) within
+returns-clause-within c = let within = quarter_within c.args.angle (omega (arith, c.requires, c.if-part-eq0.false)) in rw (
+  c.table_sine-low.ensures,
+  c.table_sine.ensures,
+) within

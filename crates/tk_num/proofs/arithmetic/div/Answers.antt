@@ -17,10 +17,14 @@ returns c =
     ∙ ap (λ z. int_div z (to_z w64 (of_z w64 y))) (wrapped_mul x (pos 65536) c.sp-2.ensures.range (omega arith))
     ∙ ap (λ z. int_div (x *ℤ pos 65536) z) (to_z-of_z w64 y (fits_signed_64 y (omega (arith, ry)))) in
     let most : unsigned_abs c.cut.result ≤ unsigned_abs (x *ℤ pos 65536) = subst (λ z. unsigned_abs c.cut.result ≤ unsigned_abs z)
-            (wrapped_mul x (pos 65536) c.sp-2.ensures.range (omega arith)) c.cut.ensures.small in
+    (wrapped_mul x (pos 65536) c.sp-2.ensures.range (omega arith)) c.cut.ensures.small in
     c.in_range.ensures
-    ∙ ap scaled (to_z-of_z w64 c.cut.result (fits_signed_64 c.cut.result (omega (arith, most, product_small x (pos 65536) c.sp-2.ensures.range
-        (omega arith)))))
+    ∙ ap scaled (to_z-of_z w64 c.cut.result (fits_signed_64 c.cut.result (omega (
+      arith,
+      most,
+      product_small x (pos 65536) c.sp-2.ensures.range
+          (omega arith),
+    ))))
     ∙ quotient_is x y c.cut.result some value
     ∙ ap (λ z. quotient z y) c.sp-2.ensures.value
     ∙ ap (λ z. quotient c.args.x z) c.sp-3.ensures.value

@@ -14,7 +14,7 @@ returns-clause-gives c =
     let back = to_z-of_z w64 x (fits_signed_64 x (omega (arith, c.sp-2.ensures.range))) in
     let back1 = to_z-of_z w64 c.sp.result (fits_signed_64 c.sp.result (omega (arith, c.sp.ensures.range))) in
     let floor : IsFloorRoot (unsigned_abs x * 65536) c.isqrt.result = subst (λ z. IsFloorRoot (unsigned_abs z * 65536) c.isqrt.result) back
-            (record { within = c.isqrt.ensures.square_le; next = c.isqrt.ensures.next_square_gt }) in
+    (record { within = c.isqrt.ensures.square_le; next = c.isqrt.ensures.next_square_gt }) in
     let positive : lt_z x (pos 0) ≡ false = subst (λ z. lt_z z (pos 0) ≡ false) (back1 ∙ same) c.if-sp-lt0.false in
     c.in_range.ensures
     ∙ ap scaled (to_z_pos w64 c.isqrt.result (omega (arith, c.isqrt.ensures.bound)))

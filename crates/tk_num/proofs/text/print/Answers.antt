@@ -9,7 +9,7 @@ use Rattle.tk_num.proofs.text.print.Goals as goal
 pub written-requires-clause-utf8 : goal.written-requires-clause-utf8
 written-requires-clause-utf8 c =
     text_utf8 c.args.sp _ (size_fits c.args.sp c.ranges.sp) (text_behind_nothing _ _ _ c.push_text.ensures.text c.new-out.ensures
-        ∙ ap text_of (to_z-of_z w64 c.args.sp c.ranges.sp))
+    ∙ ap text_of (to_z-of_z w64 c.args.sp c.ranges.sp))
 
 pub returns-clause-text : goal.returns-clause-text
 returns-clause-text c =

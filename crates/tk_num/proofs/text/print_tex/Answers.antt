@@ -10,14 +10,14 @@ pub written-requires-clause-utf8 : goal.written-requires-clause-utf8
 written-requires-clause-utf8 c =
     pointed_utf8 c.args.sp _ (size_fits c.args.sp c.ranges.sp)
     (text_behind_nothing _ _ _ (put_pointed _ _ _ _ _ _ c.push_front.ensures.text c.part_of_size.ensures.part c.push.ensures.items
-        c.push_part.ensures.text) c.new-out.ensures
+    c.push_part.ensures.text) c.new-out.ensures
     ∙ ap pointed_text (to_z-of_z w64 c.args.sp c.ranges.sp))
 
 pub returns-clause-text : goal.returns-clause-text
 returns-clause-text c =
     c.written.ensures
     ∙ text_behind_nothing _ _ _ (put_pointed _ _ _ _ _ _ c.push_front.ensures.text c.part_of_size.ensures.part c.push.ensures.items
-        c.push_part.ensures.text) c.new-out.ensures
+    c.push_part.ensures.text) c.new-out.ensures
     ∙ ap pointed_text (to_z-of_z w64 c.args.sp c.ranges.sp)
 
 pub returns-clause-chosen : goal.returns-clause-chosen

@@ -14,7 +14,7 @@ pub returns-then-rest-delta-clause-text : goal.returns-then-rest-delta-clause-te
 returns-then-rest-delta-clause-text c =
     c.push.ensures.items
     ∙ last_digit c.args.fraction c.digits.rest c.digits.delta c.rounded-rest.result c.args.out.now.items c.digits.out.items c.digits.invariant
-        c.rounded-rest.ensures c.if-rest-delta.true
+    c.rounded-rest.ensures c.if-rest-delta.true
 
 pub returns-then-rest-delta-clause-short : goal.returns-then-rest-delta-clause-short
 returns-then-rest-delta-clause-short c =
@@ -24,6 +24,6 @@ returns-then-rest-delta-clause-short c =
 pub digits-preserved : goal.digits-preserved
 digits-preserved c =
     subst (λ now. AtDigit c.args.fraction c.args.out.now.items now (10 * (c.rounded-rest.result % 65536)) (c.digits.delta * 10))
-        (sym c.push.ensures.items)
+    (sym c.push.ensures.items)
     (next_digit c.args.fraction c.digits.rest c.digits.delta c.rounded-rest.result c.args.out.now.items c.digits.out.items c.digits.invariant
-        c.rounded-rest.ensures c.if-rest-delta.false)
+    c.rounded-rest.ensures c.if-rest-delta.false)

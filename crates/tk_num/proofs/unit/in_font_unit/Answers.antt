@@ -16,7 +16,7 @@ cut_small : (c : goal.After-cut) → unsigned_abs c.cut.result ≤ 1152921502459
 cut_small c =
     let part = part_small c.args.frac c.requires.frac in
     let most : unsigned_abs c.cut.result ≤ unsigned_abs (c.args.frac *ℤ c.sp-2.result) = subst (λ z. unsigned_abs c.cut.result ≤ unsigned_abs z)
-            (wrapped_mul c.args.frac c.sp-2.result part c.sp-2.ensures.range) c.cut.ensures.small in
+    (wrapped_mul c.args.frac c.sp-2.result part c.sp-2.ensures.range) c.cut.ensures.small in
     let small = product_small c.args.frac c.sp-2.result part c.sp-2.ensures.range in
     omega (arith, most, small)
 

@@ -30,30 +30,32 @@ command-returns-in-Other-clause-gives t c = rw c.in-Other.is (c.set.ensures.give
 pub commands-returns-in_err-first-clause-gives : goal.commands-returns-in_err-first-clause-gives
 commands-returns-in_err-first-clause-gives t c =
     let e = front_fails (given_to c.args.drawer.now) (given_to c.loop-first.drawer) (same_given evaluated c.args.drawer.now.state
-            c.loop-first.drawer.state c.loop-first.invariant.kept) (opener_of c.args.opener) (place_of_run c.args.drawer.now c.args.input.now)
-            (place_of_run c.loop-first.drawer c.loop-first.input) c.loop-first.invariant.told c.in_err-first.field-0.0 (c.in_err-first.ensures.gives
-            evaluated no_path) in
+    c.loop-first.drawer.state c.loop-first.invariant.kept) (opener_of c.args.opener) (place_of_run c.args.drawer.now c.args.input.now)
+    (place_of_run c.loop-first.drawer c.loop-first.input) c.loop-first.invariant.told c.in_err-first.field-0.0 (c.in_err-first.ensures.gives
+    evaluated no_path) in
     search rules
 
 pub commands-command_at-requires : goal.commands-command_at-requires
 commands-command_at-requires t c =
     let w = taken_work (given_to c.args.drawer.now) (given_to c.loop-first.drawer) (same_given evaluated c.args.drawer.now.state
-            c.loop-first.drawer.state c.loop-first.invariant.kept) (opener_of c.args.opener) (place_of_run c.args.drawer.now c.args.input.now)
-            (place_of_run c.loop-first.drawer c.loop-first.input) c.loop-first.invariant.told (lookahead_of c.in_ok-first.first c.ahead.new.self
-            no_path c.ahead.new.input) (c.in_ok-first.ensures.gives evaluated no_path) in
+    c.loop-first.drawer.state c.loop-first.invariant.kept) (opener_of c.args.opener) (place_of_run c.args.drawer.now c.args.input.now)
+    (place_of_run c.loop-first.drawer c.loop-first.input) c.loop-first.invariant.told (lookahead_of c.in_ok-first.first c.ahead.new.self
+    no_path c.ahead.new.input) (c.in_ok-first.ensures.gives evaluated no_path) in
     let kept = ap (λ (g : Given). g.budget) (same_given evaluated c.args.drawer.now.state c.loop-first.drawer.state c.loop-first.invariant.kept) in
-    let paid = ap (λ (g : Given). g.budget) (ap (λ (d : Drawer). given_to d) c.in_ok-first.ensures.pays) in
-    (omega (arith, w, kept, paid, c.loop-first.invariant.work), sound_paid c.loop-first.drawer c.ahead.new.self c.in_ok-first.ensures.pays
-        c.loop-first.invariant.sound)
+    let paid = ap (λ (g : Given). g.budget) (ap (λ (d : Drawer). given_to d) c.in_ok-first.ensures.pays) in (
+      omega (arith, w, kept, paid, c.loop-first.invariant.work),
+      sound_paid c.loop-first.drawer c.ahead.new.self c.in_ok-first.ensures.pays
+          c.loop-first.invariant.sound,
+    )
 
 pub commands-returns-in_err-command_at-clause-gives :
     goal.commands-returns-in_err-command_at-clause-gives
 commands-returns-in_err-command_at-clause-gives t c =
     let same = (same_given evaluated c.args.drawer.now.state c.loop-first.drawer.state c.loop-first.invariant.kept) in
     let e = command_fails (given_to c.args.drawer.now) (given_to c.loop-first.drawer) same (opener_of c.args.opener) (place_of_run c.args.drawer.now
-            c.args.input.now) (place_of_run c.loop-first.drawer c.loop-first.input) c.loop-first.invariant.told (lookahead_of c.in_ok-first.first
-            c.ahead.new.self no_path c.ahead.new.input) (c.in_ok-first.ensures.gives evaluated no_path) (given_to c.ahead.new.self)
-            (ap (λ (d : Drawer). given_to d) c.in_ok-first.ensures.pays ∙ same) c.in_err-command_at.field-0.0 c.in_err-command_at.ensures.gives in
+    c.args.input.now) (place_of_run c.loop-first.drawer c.loop-first.input) c.loop-first.invariant.told (lookahead_of c.in_ok-first.first
+    c.ahead.new.self no_path c.ahead.new.input) (c.in_ok-first.ensures.gives evaluated no_path) (given_to c.ahead.new.self)
+    (ap (λ (d : Drawer). given_to d) c.in_ok-first.ensures.pays ∙ same) c.in_err-command_at.field-0.0 c.in_err-command_at.ensures.gives in
     search rules
 
 pub commands-loop-first-smaller : goal.commands-loop-first-smaller
@@ -61,12 +63,12 @@ commands-loop-first-smaller t c =
     let same = (same_given evaluated c.args.drawer.now.state c.loop-first.drawer.state c.loop-first.invariant.kept) in
     let later = ap (λ (d : Drawer). given_to d) c.in_ok-first.ensures.pays ∙ same in
     let less = command_less (given_to c.args.drawer.now) (given_to c.loop-first.drawer) same (opener_of c.args.opener) (place_of_run c.args.drawer.now
-            c.args.input.now) (place_of_run c.loop-first.drawer c.loop-first.input) c.loop-first.invariant.told (lookahead_of c.in_ok-first.first
-            c.ahead.new.self no_path c.ahead.new.input) (c.in_ok-first.ensures.gives evaluated no_path) (given_to c.ahead.new.self) later
-            (place_of_run c.command_at.new.drawer c.command_at.new.input) (rw c.in-GoesOn.is at c.in_ok-command_at.ensures.gives) in
+    c.args.input.now) (place_of_run c.loop-first.drawer c.loop-first.input) c.loop-first.invariant.told (lookahead_of c.in_ok-first.first
+    c.ahead.new.self no_path c.ahead.new.input) (c.in_ok-first.ensures.gives evaluated no_path) (given_to c.ahead.new.self) later
+    (place_of_run c.command_at.new.drawer c.command_at.new.input) (rw c.in-GoesOn.is at c.in_ok-command_at.ensures.gives) in
     let kept = ap (λ (g : Given). g.budget) same in
     let now = ap (λ (g : Given). g.budget) (same_given evaluated c.ahead.new.self.state c.command_at.new.drawer.state c.in_ok-command_at.ensures.kept
-            ∙ later) in
+    ∙ later) in
     omega (arith, less, kept, now)
 
 pub commands-loop-first-preserved : goal.commands-loop-first-preserved
@@ -74,12 +76,12 @@ commands-loop-first-preserved t c =
     let same = (same_given evaluated c.args.drawer.now.state c.loop-first.drawer.state c.loop-first.invariant.kept) in
     let later = ap (λ (d : Drawer). given_to d) c.in_ok-first.ensures.pays ∙ same in
     let less = command_less (given_to c.args.drawer.now) (given_to c.loop-first.drawer) same (opener_of c.args.opener) (place_of_run c.args.drawer.now
-            c.args.input.now) (place_of_run c.loop-first.drawer c.loop-first.input) c.loop-first.invariant.told (lookahead_of c.in_ok-first.first
-            c.ahead.new.self no_path c.ahead.new.input) (c.in_ok-first.ensures.gives evaluated no_path) (given_to c.ahead.new.self) later
-            (place_of_run c.command_at.new.drawer c.command_at.new.input) (rw c.in-GoesOn.is at c.in_ok-command_at.ensures.gives) in
+    c.args.input.now) (place_of_run c.loop-first.drawer c.loop-first.input) c.loop-first.invariant.told (lookahead_of c.in_ok-first.first
+    c.ahead.new.self no_path c.ahead.new.input) (c.in_ok-first.ensures.gives evaluated no_path) (given_to c.ahead.new.self) later
+    (place_of_run c.command_at.new.drawer c.command_at.new.input) (rw c.in-GoesOn.is at c.in_ok-command_at.ensures.gives) in
     let kept = ap (λ (g : Given). g.budget) same in
     let now = ap (λ (g : Given). g.budget) (same_given evaluated c.ahead.new.self.state c.command_at.new.drawer.state c.in_ok-command_at.ensures.kept
-            ∙ later) in
+    ∙ later) in
     record {
       told = commands_more (given_to c.args.drawer.now) (given_to c.loop-first.drawer) same (opener_of c.args.opener) (place_of_run c.args.drawer.now
           c.args.input.now) (place_of_run c.loop-first.drawer c.loop-first.input) c.loop-first.invariant.told (lookahead_of c.in_ok-first.first
@@ -88,7 +90,7 @@ commands-loop-first-preserved t c =
       sound = c.in_ok-command_at.ensures.sound;
       kept = keeps_then c.args.drawer.now.state c.loop-first.drawer.state c.command_at.new.drawer.state c.loop-first.invariant.kept
           (keeps_then c.loop-first.drawer.state c.ahead.new.self.state c.command_at.new.drawer.state (paid_keeps c.loop-first.drawer c.ahead.new.self
-              c.in_ok-first.ensures.pays).state c.in_ok-command_at.ensures.kept);
+          c.in_ok-first.ensures.pays).state c.in_ok-command_at.ensures.kept);
       work = omega (arith, less, kept, now, c.loop-first.invariant.work);
     }
 
@@ -96,16 +98,16 @@ pub commands-returns-in-Finishes-clause-gives : goal.commands-returns-in-Finishe
 commands-returns-in-Finishes-clause-gives t c =
     let same = (same_given evaluated c.args.drawer.now.state c.loop-first.drawer.state c.loop-first.invariant.kept) in
     commands_finish (given_to c.args.drawer.now) (given_to c.loop-first.drawer) same (opener_of c.args.opener) (place_of_run c.args.drawer.now
-        c.args.input.now) (place_of_run c.loop-first.drawer c.loop-first.input) c.loop-first.invariant.told (lookahead_of c.in_ok-first.first
-        c.ahead.new.self no_path c.ahead.new.input) (c.in_ok-first.ensures.gives evaluated no_path) (given_to c.ahead.new.self)
-        (ap (λ (d : Drawer). given_to d) c.in_ok-first.ensures.pays ∙ same) (progress_of c.command_at.new.drawer c.command_at.new.input)
-        (rw c.in-Finishes.is at c.in_ok-command_at.ensures.gives)
+    c.args.input.now) (place_of_run c.loop-first.drawer c.loop-first.input) c.loop-first.invariant.told (lookahead_of c.in_ok-first.first
+    c.ahead.new.self no_path c.ahead.new.input) (c.in_ok-first.ensures.gives evaluated no_path) (given_to c.ahead.new.self)
+    (ap (λ (d : Drawer). given_to d) c.in_ok-first.ensures.pays ∙ same) (progress_of c.command_at.new.drawer c.command_at.new.input)
+    (rw c.in-Finishes.is at c.in_ok-command_at.ensures.gives)
 
 pub styled_commands-commands-requires : goal.styled_commands-commands-requires
 styled_commands-commands-requires t c =
     let kept = c.in_ok-run_styled.ensures.kept in
     let w = styled_work (given_to c.args.drawer.now) c.place.result (style_name c.args.style) (place_of_run c.args.drawer.now c.args.input.now)
-            (place_of_run c.run_styled.new.drawer c.run_styled.new.input) c.in_ok-run_styled.ensures.gives in
+    (place_of_run c.run_styled.new.drawer c.run_styled.new.input) c.in_ok-run_styled.ensures.gives in
     let budget = kept.state.budget in
     (omega (arith, w, budget), sound_kept c.args.drawer.now c.run_styled.new.drawer kept (search rules))
 
@@ -119,19 +121,27 @@ scope-styled_commands-requires t c =
 pub scope-returns-in_err-styled_commands-clause-gives : goal.scope-returns-in_err-styled_commands-clause-gives
 scope-returns-in_err-styled_commands-clause-gives t c opener =
     let p = err_from_is_err_and c.from_residual-in_err-styled_commands.result c.from_residual-in_err-styled_commands.ensures.1 in
-    let d : State → Configuration = λ s. configuration (env_of c.open.new.self) (record { items = c.args.drawer.now.items;
-            frame = c.args.drawer.now.frame; units = s.units; path = no_path }) c.expect_named.new.input in
+    let d : State → Configuration = λ s. configuration (env_of c.open.new.self) (record {
+      items = c.args.drawer.now.items;
+      frame = c.args.drawer.now.frame;
+      units = s.units;
+      path = no_path;
+    }) c.expect_named.new.input in
     rw (p.1, p.2) (scope_fails (given_to c.args.drawer.now) c.args.first opener (place_of_run c.args.drawer.now c.args.input.now)
-        c.expect_named.new.input (env_of c.open.new.self) c.in_ok-expect_named.ensures.gives c.in_ok-open.ensures.gives
-        (given_of evaluated c.open.new.self) (ap (given_of evaluated) c.in_ok-open.ensures.opened) (d c.open.new.self)
-        (ap d c.in_ok-open.ensures.opened) c.in_err-styled_commands.field-0.0 c.in_err-styled_commands.ensures.gives)
+    c.expect_named.new.input (env_of c.open.new.self) c.in_ok-expect_named.ensures.gives c.in_ok-open.ensures.gives
+    (given_of evaluated c.open.new.self) (ap (given_of evaluated) c.in_ok-open.ensures.opened) (d c.open.new.self)
+    (ap d c.in_ok-open.ensures.opened) c.in_err-styled_commands.field-0.0 c.in_err-styled_commands.ensures.gives)
 
 pub scope-returns-clause-gives : goal.scope-returns-clause-gives
 scope-returns-clause-gives t c opener =
-    let d : State → Configuration = λ s. configuration (env_of c.open.new.self) (record { items = c.args.drawer.now.items;
-            frame = c.args.drawer.now.frame; units = s.units; path = no_path }) c.expect_named.new.input in
+    let d : State → Configuration = λ s. configuration (env_of c.open.new.self) (record {
+      items = c.args.drawer.now.items;
+      frame = c.args.drawer.now.frame;
+      units = s.units;
+      path = no_path;
+    }) c.expect_named.new.input in
     let e = scope_ends (given_to c.args.drawer.now) c.args.first opener (place_of_run c.args.drawer.now c.args.input.now) c.expect_named.new.input
-            (env_of c.open.new.self) c.in_ok-expect_named.ensures.gives c.in_ok-open.ensures.gives (given_of evaluated c.open.new.self)
-            (ap (given_of evaluated) c.in_ok-open.ensures.opened) (d c.open.new.self) (ap d c.in_ok-open.ensures.opened)
-            (progress_of c.styled_commands.new.drawer c.styled_commands.new.input) c.in_ok-styled_commands.ensures.gives in
+    (env_of c.open.new.self) c.in_ok-expect_named.ensures.gives c.in_ok-open.ensures.gives (given_of evaluated c.open.new.self)
+    (ap (given_of evaluated) c.in_ok-open.ensures.opened) (d c.open.new.self) (ap d c.in_ok-open.ensures.opened)
+    (progress_of c.styled_commands.new.drawer c.styled_commands.new.input) c.in_ok-styled_commands.ensures.gives in
     search rules

@@ -14,7 +14,7 @@ returns-in_err-run_style-clause-gives c rest =
     let p = err_from_is_err_and c.from_residual.result c.from_residual.ensures.1 in
     let same = same_given evaluated c.args.drawer.now.state c.unpaint.new.drawer.state c.unpaint.ensures.kept.state in
     rw (p.1, p.2) (style_fails (given_to c.args.drawer.now) (given_to c.unpaint.new.drawer) c.args.keys.now c.args.at (place_of_run c.args.drawer.now
-        rest) (place_of_run c.unpaint.new.drawer rest) same (c.unpaint.ensures.gives rest) c.in_err-run_style.field-0.0
+    rest) (place_of_run c.unpaint.new.drawer rest) same (c.unpaint.ensures.gives rest) c.in_err-run_style.field-0.0
     (c.in_err-run_style.ensures.gives evaluated evaluated_is_the_answer no_path rest))
 
 pub returns-clause-gives : goal.returns-clause-gives
@@ -22,7 +22,7 @@ returns-clause-gives c rest =
     let same = same_given evaluated c.args.drawer.now.state c.unpaint.new.drawer.state c.unpaint.ensures.kept.state in
     let later = same_given evaluated c.unpaint.new.drawer.state c.run_style.new.self.state c.in_ok-run_style.ensures.kept.state ∙ same in
     rw (style_goes (given_to c.args.drawer.now) (given_to c.unpaint.new.drawer) c.args.keys.now c.args.at (place_of_run c.args.drawer.now rest)
-        (place_of_run c.unpaint.new.drawer rest) same (c.unpaint.ensures.gives rest)
+    (place_of_run c.unpaint.new.drawer rest) same (c.unpaint.ensures.gives rest)
     (given_to c.run_style.new.self) (place_of_run c.run_style.new.self rest) later (c.in_ok-run_style.ensures.gives evaluated evaluated_is_the_answer
-        no_path rest))
+    no_path rest))
     (c.run_written.ensures.gives evaluated evaluated_is_the_answer no_path rest)

@@ -24,10 +24,10 @@ pub returns-in_err-document-clause-fault : goal.returns-in_err-document-clause-f
 returns-in_err-document-clause-fault c =
     let lexed = c.in_ok-toks.field-0 in
     let is = ran_over lexed.names c.args.budget c.font_units.result c.in_ok-new.field-0 c.in_ok-input.input lexed.toks.items
-            (length c.args.source.now) c.in_ok-new.ensures c.font_units.ensures (rw c.in_ok-from_vec.ensures at c.in_ok-input.ensures) in
+    (length c.args.source.now) c.in_ok-new.ensures c.font_units.ensures (rw c.in_ok-from_vec.ensures at c.in_ok-input.ensures) in
     let h = fault_outcome c.args.budget c.args.source.now lexed.names lexed.toks.items c.in_ok-toks.ensures.tokens c.in_ok-toks.ensures.listed
-            c.in_ok-toks.ensures.words c.in_ok-toks.ensures.once c.in_err-document.field-0.0 (document (given_of evaluated c.in_ok-new.field-0)
-            c.in_ok-input.input) is c.in_err-document.ensures.gives in
+    c.in_ok-toks.ensures.words c.in_ok-toks.ensures.once c.in_err-document.field-0.0 (document (given_of evaluated c.in_ok-new.field-0)
+    c.in_ok-input.input) is c.in_err-document.ensures.gives in
     let p = err_from_is_err_and c.from_residual-in_err-document.result c.from_residual-in_err-document.ensures.1 in
     rw (p.1, p.2) h
 
@@ -35,10 +35,10 @@ pub returns-in_err-document-clause-place : goal.returns-in_err-document-clause-p
 returns-in_err-document-clause-place c =
     let lexed = c.in_ok-toks.field-0 in
     let is = ran_over lexed.names c.args.budget c.font_units.result c.in_ok-new.field-0 c.in_ok-input.input lexed.toks.items
-            (length c.args.source.now) c.in_ok-new.ensures c.font_units.ensures (rw c.in_ok-from_vec.ensures at c.in_ok-input.ensures) in
+    (length c.args.source.now) c.in_ok-new.ensures c.font_units.ensures (rw c.in_ok-from_vec.ensures at c.in_ok-input.ensures) in
     let h = fault_place c.args.budget c.args.source.now lexed.names lexed.toks.items c.in_ok-toks.ensures.tokens c.in_ok-toks.ensures.listed
-            c.in_ok-toks.ensures.words c.in_ok-toks.ensures.once c.in_err-document.field-0.0 (document (given_of evaluated c.in_ok-new.field-0)
-            c.in_ok-input.input) is c.in_err-document.ensures.gives in
+    c.in_ok-toks.ensures.words c.in_ok-toks.ensures.once c.in_err-document.field-0.0 (document (given_of evaluated c.in_ok-new.field-0)
+    c.in_ok-input.input) is c.in_err-document.ensures.gives in
     let p = err_from_is_err_and c.from_residual-in_err-document.result c.from_residual-in_err-document.ensures.1 in
     rw (p.1, p.2) h
 
@@ -46,10 +46,10 @@ pub returns-in_err-document-clause-text : goal.returns-in_err-document-clause-te
 returns-in_err-document-clause-text c =
     let lexed = c.in_ok-toks.field-0 in
     let is = ran_over lexed.names c.args.budget c.font_units.result c.in_ok-new.field-0 c.in_ok-input.input lexed.toks.items
-            (length c.args.source.now) c.in_ok-new.ensures c.font_units.ensures (rw c.in_ok-from_vec.ensures at c.in_ok-input.ensures) in
+    (length c.args.source.now) c.in_ok-new.ensures c.font_units.ensures (rw c.in_ok-from_vec.ensures at c.in_ok-input.ensures) in
     let h = fault_text c.args.budget c.args.source.now lexed.names lexed.toks.items c.in_ok-toks.ensures.tokens c.in_ok-toks.ensures.listed
-            c.in_ok-toks.ensures.words c.in_ok-toks.ensures.once c.in_err-document.field-0.0 (document (given_of evaluated c.in_ok-new.field-0)
-            c.in_ok-input.input) is c.in_err-document.ensures.gives in
+    c.in_ok-toks.ensures.words c.in_ok-toks.ensures.once c.in_err-document.field-0.0 (document (given_of evaluated c.in_ok-new.field-0)
+    c.in_ok-input.input) is c.in_err-document.ensures.gives in
     let p = err_from_is_err_and c.from_residual-in_err-document.result c.from_residual-in_err-document.ensures.1 in
     rw (p.1, p.2) h
 
@@ -57,10 +57,10 @@ pub returns-clause-compiled : goal.returns-clause-compiled
 returns-clause-compiled c =
     let lexed = c.in_ok-toks.field-0 in
     let is = ran_over lexed.names c.args.budget c.font_units.result c.in_ok-new.field-0 c.in_ok-input.input lexed.toks.items
-            (length c.args.source.now) c.in_ok-new.ensures c.font_units.ensures (rw c.in_ok-from_vec.ensures at c.in_ok-input.ensures) in
+    (length c.args.source.now) c.in_ok-new.ensures c.font_units.ensures (rw c.in_ok-from_vec.ensures at c.in_ok-input.ensures) in
     let h = drawing_outcome c.args.budget c.args.source.now lexed.names lexed.toks.items c.in_ok-toks.ensures.tokens c.in_ok-toks.ensures.listed
-            c.in_ok-toks.ensures.words c.in_ok-toks.ensures.once c.in_ok-compiled.field-0 (sym is ∙ c.in_ok-document.ensures.gives
-            ∙ ap (λ (d : Compiled). (let a : Answer Compiled = Ok d in a)) (sym c.in_ok-compiled.ensures.compiled)) in
+    c.in_ok-toks.ensures.words c.in_ok-toks.ensures.once c.in_ok-compiled.field-0 (sym is ∙ c.in_ok-document.ensures.gives
+    ∙ ap (λ (d : Compiled). (let a : Answer Compiled = Ok d in a)) (sym c.in_ok-compiled.ensures.compiled)) in
     search rules
 
 pub document-requires : goal.document-requires

@@ -14,29 +14,29 @@ pub returns-in_err-expect_nothing-clause-gives : goal.returns-in_err-expect_noth
 returns-in_err-expect_nothing-clause-gives c =
     let same = ap (given_of evaluated) c.in_ok-open.ensures.opened in
     let none = ap
-            (λ (s : State). (let p : Picture = record { items = c.args.drawer.now.items; frame = c.args.drawer.now.frame; units = s.units; path = no_path } in p)) c.in_ok-open.ensures.opened ∙ c.requires.picture in
+    (λ (s : State). (let p : Picture = record { items = c.args.drawer.now.items; frame = c.args.drawer.now.frame; units = s.units; path = no_path } in p)) c.in_ok-open.ensures.opened ∙ c.requires.picture in
     let e = picture_ends (given_to c.args.drawer.now) (given_of evaluated c.open.new.self) c.args.at c.args.input.now c.expect_name.new.self
-            (env_of c.args.drawer.now.state) (env_of c.open.new.self) _ same c.requires.env none c.in_ok-expect_name.ensures.gives
-            c.in_ok-open.ensures.gives (progress_of c.styled_commands.new.drawer c.styled_commands.new.input) c.in_ok-styled_commands.ensures.gives
-            ∙ c.in_err-expect_nothing.ensures (compiled (picture_of c.styled_commands.new.drawer no_path)) in
+    (env_of c.args.drawer.now.state) (env_of c.open.new.self) _ same c.requires.env none c.in_ok-expect_name.ensures.gives
+    c.in_ok-open.ensures.gives (progress_of c.styled_commands.new.drawer c.styled_commands.new.input) c.in_ok-styled_commands.ensures.gives
+    ∙ c.in_err-expect_nothing.ensures (compiled (picture_of c.styled_commands.new.drawer no_path)) in
     search rules
 
 pub returns-clause-gives : goal.returns-clause-gives
 returns-clause-gives c =
     let same = ap (given_of evaluated) c.in_ok-open.ensures.opened in
     let none = ap
-            (λ (s : State). (let p : Picture = record { items = c.args.drawer.now.items; frame = c.args.drawer.now.frame; units = s.units; path = no_path } in p)) c.in_ok-open.ensures.opened ∙ c.requires.picture in
+    (λ (s : State). (let p : Picture = record { items = c.args.drawer.now.items; frame = c.args.drawer.now.frame; units = s.units; path = no_path } in p)) c.in_ok-open.ensures.opened ∙ c.requires.picture in
     picture_ends (given_to c.args.drawer.now) (given_of evaluated c.open.new.self) c.args.at c.args.input.now c.expect_name.new.self
-        (env_of c.args.drawer.now.state) (env_of c.open.new.self) _ same c.requires.env none c.in_ok-expect_name.ensures.gives
-        c.in_ok-open.ensures.gives (progress_of c.styled_commands.new.drawer c.styled_commands.new.input) c.in_ok-styled_commands.ensures.gives
-        ∙ c.in_ok-expect_nothing.ensures (compiled (picture_of c.styled_commands.new.drawer no_path))
+    (env_of c.args.drawer.now.state) (env_of c.open.new.self) _ same c.requires.env none c.in_ok-expect_name.ensures.gives
+    c.in_ok-open.ensures.gives (progress_of c.styled_commands.new.drawer c.styled_commands.new.input) c.in_ok-styled_commands.ensures.gives
+    ∙ c.in_ok-expect_nothing.ensures (compiled (picture_of c.styled_commands.new.drawer no_path))
 
 pub returns-in_err-styled_commands-clause-gives : goal.returns-in_err-styled_commands-clause-gives
 returns-in_err-styled_commands-clause-gives c =
     let p = err_from_is_err_and c.from_residual-in_err-styled_commands.result c.from_residual-in_err-styled_commands.ensures.1 in
     let same = ap (given_of evaluated) c.in_ok-open.ensures.opened in
     let none = ap
-            (λ (s : State). (let p : Picture = record { items = c.args.drawer.now.items; frame = c.args.drawer.now.frame; units = s.units; path = no_path } in p)) c.in_ok-open.ensures.opened ∙ c.requires.picture in
+    (λ (s : State). (let p : Picture = record { items = c.args.drawer.now.items; frame = c.args.drawer.now.frame; units = s.units; path = no_path } in p)) c.in_ok-open.ensures.opened ∙ c.requires.picture in
     rw (p.1, p.2) (picture_fails (given_to c.args.drawer.now) (given_of evaluated c.open.new.self) c.args.at c.args.input.now c.expect_name.new.self
-        (env_of c.args.drawer.now.state) (env_of c.open.new.self) _ same c.requires.env none c.in_ok-expect_name.ensures.gives
-        c.in_ok-open.ensures.gives c.in_err-styled_commands.field-0.0 c.in_err-styled_commands.ensures.gives)
+    (env_of c.args.drawer.now.state) (env_of c.open.new.self) _ same c.requires.env none c.in_ok-expect_name.ensures.gives
+    c.in_ok-open.ensures.gives c.in_err-styled_commands.field-0.0 c.in_err-styled_commands.ensures.gives)

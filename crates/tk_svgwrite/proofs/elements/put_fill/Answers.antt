@@ -6,4 +6,4 @@ pub returns-in_ok-put_setting-in-Some-clause-text : goal.returns-in_ok-put_setti
 returns-in_ok-put_setting-in-Some-clause-text c =
     IfOk-equal c.put_setting-in-Some-2.result _ _ _ c.put_setting-in-Some-2.ensures
     (fill_parts c.args.out.now.items _ c.args.fill c.in-Some.fill _ _ c.in-Some.is c.rgb_digits.ensures.text c.rule_word.ensures
-        c.in_ok-put_setting-in-Some.ensures)
+    c.in_ok-put_setting-in-Some.ensures)

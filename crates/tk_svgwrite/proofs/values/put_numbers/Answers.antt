@@ -25,6 +25,8 @@ returns-clause-text c =
     ∙ ap (λ w. c.args.out.now.items ++ w) (sym (numbers_text-cons c.args.first c.args.rest.now))
 
 pub returns-clause-range : goal.returns-clause-range
-returns-clause-range c =
-    (c.in_ok-put_scaled.ensures.range, recursion_from_All IsScaled c.args.rest.now (subst (All IsScaled) (take_all c.loop-number.number-index
-        c.args.rest.now (omega arith)) c.loop-number.invariant.range))
+returns-clause-range c = (
+  c.in_ok-put_scaled.ensures.range,
+  recursion_from_All IsScaled c.args.rest.now (subst (All IsScaled) (take_all c.loop-number.number-index
+      c.args.rest.now (omega arith)) c.loop-number.invariant.range),
+)

@@ -7,7 +7,7 @@ use Rattle.tk_token.proofs.faults.balanced.Goals as goal
 pub returns-in_err-open_after : goal.returns-in_err-open_after
 returns-in_err-open_after c = λ names.
     let e = one_fails names c.args.toks.now c.loop-tok.tok-index _ (reverse c.loop-tok.open_at.items) c.loop-tok-test.true
-            c.in_err-open_after.field-0.0 (c.loop-tok.invariant.told names) (c.in_err-open_after.ensures names) in
+    c.in_err-open_after.field-0.0 (c.loop-tok.invariant.told names) (c.in_err-open_after.ensures names) in
     search rules
 
 pub loop-tok-preserved : goal.loop-tok-preserved
@@ -19,5 +19,5 @@ loop-tok-preserved c = record {
 pub returns-in-Some : goal.returns-in-Some
 returns-in-Some c = λ names.
     left_open names c.args.toks.now c.loop-tok.tok-index c.loop-tok.open_at.items c.in-Some.at.now c.loop-tok-test.false
-        (c.loop-tok.invariant.told names) (c.in-Some.ensures.value ∙ ap (λ (xs : List ℕ). slice_get xs (length xs - 1)) c.deref.ensures.value)
-        ∙ ap (λ (f : Fault). Err f) (sym c.new.ensures)
+    (c.loop-tok.invariant.told names) (c.in-Some.ensures.value ∙ ap (λ (xs : List ℕ). slice_get xs (length xs - 1)) c.deref.ensures.value)
+    ∙ ap (λ (f : Fault). Err f) (sym c.new.ensures)

@@ -8,7 +8,7 @@ pub returns-then-is_refused-clause-value : goal.returns-then-is_refused-clause-v
 returns-then-is_refused-clause-value c =
     let (front, is, none) = c.loop-first.invariant.told in
     first_found is_refused c.args.text.now c.loop-first.rest.now front (chars c.in-Some.tail.now) c.in-Some.first c.utf8.text
-        c.loop-first.invariant.text is c.in-Some.ensures.value none (sym c.if-is_refused.ensures)
+    c.loop-first.invariant.text is c.in-Some.ensures.value none (sym c.if-is_refused.ensures)
 
 pub loop-first-preserved : goal.loop-first-preserved
 loop-first-preserved c =
@@ -16,9 +16,13 @@ loop-first-preserved c =
     record {
       text = c.in-Some.ensures.text;
       within = omega (arith, c.in-Some.ensures.within, c.loop-first.invariant.within);
-      told = (front ++ c.in-Some.first ∷ [], is ∙ ap (λ (r : List ℕ). front ++ r) c.in-Some.ensures.value
-          ∙ sym (append_assoc front (c.in-Some.first ∷ []) (chars c.in-Some.tail.now)), none_more is_refused front c.in-Some.first none
-          (sym c.if-is_refused.ensures));
+      told = (
+        front ++ c.in-Some.first ∷ [],
+        is ∙ ap (λ (r : List ℕ). front ++ r) c.in-Some.ensures.value
+            ∙ sym (append_assoc front (c.in-Some.first ∷ []) (chars c.in-Some.tail.now)),
+        none_more is_refused front c.in-Some.first none
+            (sym c.if-is_refused.ensures),
+      );
     }
 
 pub returns-clause-value : goal.returns-clause-value

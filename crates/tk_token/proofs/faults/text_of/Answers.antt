@@ -10,7 +10,7 @@ use Rattle.tk_token.proofs.faults.text_of.Goals as goal
 pub returns-in-Err : goal.returns-in-Err
 returns-in-Err c =
     no_text_fault c.args.source.now c.valid_up_to.result c.in-Err.ensures.cases.0 (c.valid_up_to.ensures ∙ c.in-Err.ensures.valid_len)
-        ∙ ap (λ (f : Fault). Some f) (sym c.new.ensures)
+    ∙ ap (λ (f : Fault). Some f) (sym c.new.ensures)
 
 pub returns-in-Some : goal.returns-in-Some
 returns-in-Some c =

@@ -44,9 +44,13 @@ loop-first-preserved c =
     let sought = begins_sought c.args.sought in
     let here = tested sought c.loop-first.depth front rest _ told first tail cons false (sym c.if-is_found.ensures) in
     record {
-      told = (front ++ first ∷ [], is ∙ ap (λ (ts : List Tok). front ++ ts) cons ∙ sym (append_assoc front (first ∷ []) tail), goes sought
-          c.loop-first.depth front rest _ told first tail cons here (sym c.if-closes_nothing.ensures) (front ++ first ∷ []) c.depth_after-depth.result
-          refl c.depth_after-depth.ensures.depth);
+      told = (
+        front ++ first ∷ [],
+        is ∙ ap (λ (ts : List Tok). front ++ ts) cons ∙ sym (append_assoc front (first ∷ []) tail),
+        goes sought
+            c.loop-first.depth front rest _ told first tail cons here (sym c.if-closes_nothing.ensures) (front ++ first ∷ []) c.depth_after-depth.result
+            refl c.depth_after-depth.ensures.depth,
+      );
       within = let one = ap length cons in omega (arith, c.loop-first.invariant.within, c.depth_after-depth.ensures.within);
     }
 
@@ -54,4 +58,4 @@ pub returns : goal.returns
 returns c =
     let (front, is, told) = c.loop-first.invariant.told in
     sym (ends (begins_sought c.args.sought) c.loop-first.depth front c.loop-first.rest.now _ told (nil_from_length c.loop-first.rest.now
-        c.in_default.ensures.cases))
+    c.in_default.ensures.cases))

@@ -31,7 +31,7 @@ loop-first-preserved c =
     let rest = c.loop-first.rest.now in
     let new = c.next_kind.new.names in
     let piece : CutsOne (chars rest) (sign_of new c.in_ok-kind.kind) (chars c.in_ok-kind.behind.now) = subst (λ (cs : List _).
-            CutsOne cs (sign_of new c.in_ok-kind.kind) (chars c.in_ok-kind.behind.now)) (sym c.in-Some.ensures.value) c.in_ok-kind.ensures.cuts in
+    CutsOne cs (sign_of new c.in_ok-kind.kind) (chars c.in_ok-kind.behind.now)) (sym c.in-Some.ensures.value) c.in_ok-kind.ensures.cuts in
     record {
       text = c.in_ok-kind.ensures.text;
       few = omega (arith, so.few, c.in-Some.ensures.within, c.in_ok-kind.ensures.within, c.in_ok-kind.ensures.few);
@@ -43,7 +43,7 @@ loop-first-preserved c =
       goes_on = λ ts t.
           subst (λ (toks : List Tok). Tokens n (after_mark (chars c.args.text.now)) (map (token_of new) toks ++ ts)) (sym c.in_ok-push.ensures.items)
           (goes_on_more n (after_mark (chars c.args.text.now)) rest (chars c.in_ok-kind.behind.now) c.loop-first.names new c.loop-first.toks.items
-              c.in_ok-kind.kind _ so.goes_on so.words c.in_ok-kind.ensures.names piece so.text refl ts t);
+          c.in_ok-kind.kind _ so.goes_on so.words c.in_ok-kind.ensures.names piece so.text refl ts t);
     }
 
 pub returns-clause-tokens : goal.returns-clause-tokens

@@ -17,9 +17,9 @@ returns-in_err-balanced-clause-fault c =
     let toks = c.in_ok-lexed.lexed.toks.items in
     let names = c.in_ok-lexed.lexed.names in
     let fails : Fails c.in_err-balanced.field-0.0 (balanced (map (token_of names) toks)) = subst (λ (ts : List Tok). Fails c.in_err-balanced.field-0.0
-            (balanced (map (token_of names) ts))) c.deref.ensures.value (c.in_err-balanced.ensures names) in
+    (balanced (map (token_of names) ts))) c.deref.ensures.value (c.in_err-balanced.ensures names) in
     let e = lexes_fault c.args.source.now c.in_ok-text.text.now (map (token_of names) toks) c.in_ok-text.ensures.0 c.in_ok-text.ensures.1
-            c.in_ok-lexed.ensures.tokens c.in_err-balanced.field-0.0 fails in
+    c.in_ok-lexed.ensures.tokens c.in_err-balanced.field-0.0 fails in
     search rules
 
 pub returns-clause-tokens : goal.returns-clause-tokens
@@ -27,9 +27,9 @@ returns-clause-tokens c =
     let toks = c.in_ok-lexed.lexed.toks.items in
     let names = c.in_ok-lexed.lexed.names in
     let so : balanced (map (token_of names) toks) ≡ Ok (map (token_of names) toks) = subst (λ (ts : List Tok). balanced (map (token_of names) ts)
-            ≡ Ok (map (token_of names) ts)) c.deref.ensures.value (c.in_ok-balanced.ensures names) in
+    ≡ Ok (map (token_of names) ts)) c.deref.ensures.value (c.in_ok-balanced.ensures names) in
     lexes_as c.args.source.now c.in_ok-text.text.now (map (token_of names) toks) c.in_ok-text.ensures.0 c.in_ok-text.ensures.1
-        c.in_ok-lexed.ensures.tokens (Ok (map (token_of names) toks)) so
+    c.in_ok-lexed.ensures.tokens (Ok (map (token_of names) toks)) so
 
 pub returns-clause-no_arg : goal.returns-clause-no_arg
 returns-clause-no_arg c = toks_plain c.in_ok-lexed.lexed.names c.in_ok-text.text.now c.in_ok-lexed.lexed.toks.items c.in_ok-lexed.ensures.tokens
@@ -37,5 +37,5 @@ returns-clause-no_arg c = toks_plain c.in_ok-lexed.lexed.names c.in_ok-text.text
 pub returns-clause-places : goal.returns-clause-places
 returns-clause-places c = λ k d lt.
     let start = toks_start c.in_ok-lexed.lexed.names c.in_ok-text.text.now c.in_ok-lexed.lexed.toks.items c.in_ok-lexed.ensures.tokens
-            (subst IsUtf8 (sym c.in_ok-text.ensures.0) (text_without_fault c.args.source.now c.in_ok-text.ensures.1)) k d lt in
+    (subst IsUtf8 (sym c.in_ok-text.ensures.0) (text_without_fault c.args.source.now c.in_ok-text.ensures.1)) k d lt in
     subst (λ (s : List ℕ). (get_or c.in_ok-lexed.lexed.toks.items k d).at < length s) c.in_ok-text.ensures.0 start.0

@@ -8,7 +8,7 @@ pub returns-in_default-character_of : goal.returns-in_default-character_of
 returns-in_default-character_of c =
     let text = string_bytes c.loop-first.text in
     sym (c.loop-first.invariant ∙ ap (λ ts. behind text (characters_of ts)) c.in-Some.ensures.cases.0 ∙ no_more text c.in-Some.first.now
-        c.in-Some.tail.now c.in_default-character_of.ensures)
+    c.in-Some.tail.now c.in_default-character_of.ensures)
 
 pub loop-first-preserved : goal.loop-first-preserved
 loop-first-preserved c =

@@ -15,13 +15,13 @@ returns-in_err-argument-clause-gives c =
     let p = err_from_is_err_and c.from_residual.result c.from_residual.ensures.1 in
     let more : c.args.count - c.loop.counter ≡ suc (c.args.count - (c.loop.counter + 1)) = omega (arith, c.loop-test.true) in
     rw (p.1, p.2) (one_missing c.args.at (c.args.count - c.loop.counter) (texts_of c.loop.arguments.items) c.loop.self.rest _ c.loop.invariant.told
-        (c.args.count - (c.loop.counter + 1)) more c.in_err-argument.field-0.0 c.in_err-argument.ensures.gives)
+    (c.args.count - (c.loop.counter + 1)) more c.in_err-argument.field-0.0 c.in_err-argument.ensures.gives)
 
 pub loop-preserved : goal.loop-preserved
 loop-preserved c =
     let more : c.args.count - c.loop.counter ≡ suc (c.args.count - (c.loop.counter + 1)) = omega (arith, c.loop-test.true) in
     let pushed : texts_of c.push.new.self.items ≡ texts_of c.loop.arguments.items ++ c.in_ok-argument.field-0.items ∷ [] = ap texts_of
-            c.in_ok-push.ensures.items ∙ map-append _ c.loop.arguments.items (c.in_ok-argument.field-0 ∷ []) in
+    c.in_ok-push.ensures.items ∙ map-append _ c.loop.arguments.items (c.in_ok-argument.field-0 ∷ []) in
     record {
       told = one_taken c.args.at (c.args.count - c.loop.counter) (texts_of c.loop.arguments.items) c.loop.self.rest _ c.loop.invariant.told
           (c.args.count - (c.loop.counter + 1)) more (cut c.in_ok-argument.field-0.items c.argument.new.self.rest) (texts_of c.push.new.self.items)

@@ -5,7 +5,7 @@ use Rattle.tk_expand.proofs.input.Input.expect_text.Goals as goal
 pub returns-in_err-expect_char-clause-gives : goal.returns-in_err-expect_char-clause-gives
 returns-in_err-expect_char-clause-gives c =
     let e = c.loop-byte.invariant.told ∙ char_missed c.args.code c.args.text.now c.loop-byte.byte-index c.loop-byte.self
-            c.in_err-expect_char.field-0.0 c.loop-byte-test.true (search rules) in
+    c.in_err-expect_char.field-0.0 c.loop-byte-test.true (search rules) in
     search rules
 
 pub loop-byte-preserved : goal.loop-byte-preserved

@@ -10,7 +10,12 @@ returns-then-is_empty c =
 
 pub returns : goal.returns
 returns c =
-    let last : suc (c.len-last.result - 1) ≡ length c.self.inside.stack.items = grind (arith, c.self.inside.stack.ok.0, c.is_empty.ensures,
-            c.if-is_empty.false, c.len-last.ensures) in
+    let last : suc (c.len-last.result - 1) ≡ length c.self.inside.stack.items = grind (
+      arith,
+      c.self.inside.stack.ok.0,
+      c.is_empty.ensures,
+      c.if-is_empty.false,
+      c.len-last.ensures,
+    ) in
     sym (ap (λ (u : Unread). slice_get u.rest 0) (sym c.self.view_is) ∙ first_of_last c.self.inside.stack.items (c.len-last.result - 1)
-        c.index.result.now c.index.result.now c.first.result last c.index.ensures c.first.ensures)
+    c.index.result.now c.index.result.now c.first.result last c.index.ensures c.first.ensures)

@@ -32,5 +32,5 @@ returns-clause-gives c =
     ∙ ap (λ (list : Unread). (let x : Answer Stream = Ok (stream c.paid_text.new.units.used list) in x))
     (same_list (unread (text ++ c.arguments.new.self.rest) c.args.self.now.end) c.push.new.self
     (ap (λ (front : List Tok). front ++ c.arguments.new.self.rest) (sym c.in_ok-text.ensures.text)
-        ∙ ap (λ (u : Unread). u.rest) (sym c.in_ok-push.ensures))
+    ∙ ap (λ (u : Unread). u.rest) (sym c.in_ok-push.ensures))
     (sym c.in_ok-arguments.ensures.end ∙ ap (λ (u : Unread). u.end) (sym c.in_ok-push.ensures)))

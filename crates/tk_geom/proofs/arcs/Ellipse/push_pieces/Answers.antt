@@ -10,7 +10,7 @@ returns-in-Err-clause-gives c =
     let found : at c.loop-i.i ≡ Err c.in-Err.fault = cc
     (c.piece.ensures, c.in-Err.is, c.control_ratio-k.ensures.value, c.angle_at-from.ensures, c.angle_at-to.ensures) in
     fault_told _ _ _ _ c.in-Err.fault c.loop-i.invariant.told (faulty_piece_ends_all at c.loop-i.i c.args.count c.in-Err.fault
-        c.loop-i-test.true found)
+    c.loop-i-test.true found)
 
 pub loop-i-preserved : goal.loop-i-preserved
 loop-i-preserved c =

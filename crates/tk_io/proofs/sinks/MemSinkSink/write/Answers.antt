@@ -6,8 +6,8 @@ pub returns-then-contains-clause-exactly : goal.returns-then-contains-clause-exa
 returns-then-contains-clause-exactly c =
     let inside = c.self.inside in
     let listed : is_listed inside.failing.items c.saturating_add-self-inside.result
-            ≡ true = ap (λ (xs : List ℕ). is_listed xs c.saturating_add-self-inside.result) (sym c.deref.ensures.value) ∙ sym c.contains.ensures.value
-            ∙ c.if-contains.true in
+    ≡ true = ap (λ (xs : List ℕ). is_listed xs c.saturating_add-self-inside.result) (sym c.deref.ensures.value) ∙ sym c.contains.ensures.value
+    ∙ c.if-contains.true in
     rw (← c.self.view_is) record {
       fails = (λ _. inl (ap (λ (n : ℕ). is_listed inside.failing.items n) (sym c.saturating_add-self-inside.ensures) ∙ listed), λ _. refl);
       count = tt;

@@ -17,7 +17,7 @@ returns-in-Some-clause-opens c =
     let old = c.args.self.now in
     let place = c.in-Some.place in
     let there : find_file old.desk c.args.name.now ≡ Some place = ap (λ (s : Sure). find_file s.desk c.args.name.now) (sym c.self.view_is)
-            ∙ sym c.in-Some.ensures.place in
+    ∙ sym c.in-Some.ensures.place in
     let opened = c.open_at.ensures ∙ ap (λ (s : Sure). opened_at s.desk place) c.self.view_is in
     subst (λ (d : OnDesk). Opens c.args.name.now (sure_means old) (sure_means (record { desk = d; absent = Nothing })) (Ok tt)) (sym opened)
-        (Sure-opened c.args.name.now old place there)
+    (Sure-opened c.args.name.now old place there)

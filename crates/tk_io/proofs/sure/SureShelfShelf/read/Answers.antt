@@ -15,7 +15,7 @@ returns-in-Some-clause-reads c name is_open =
     is_open
     c.hand_out.auto.buf
     (omega (arith, c.hand_out.ensures.count) ∙ ap (λ (s : Sure). min (length c.args.buf.now) (length (file_at s.desk place).1 - s.desk.at))
-        c.self.view_is)
+    c.self.view_is)
     (c.hand_out.ensures.front ∙ ap (λ (s : Sure). take n (drop s.desk.at (file_at s.desk place).1)) c.self.view_is)
     (c.hand_out.ensures.moved ∙ ap (λ (s : Sure). moved_on s.desk place n) c.self.view_is)
     (ap (λ (s : Sure). s.absent) c.self.view_is)

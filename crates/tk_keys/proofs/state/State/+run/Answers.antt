@@ -10,7 +10,7 @@ use Rattle.tk_keys.proofs.state.State.+run.Goals as goal
 pub run_part-run_text-requires : goal.run_part-run_text-requires
 run_part-run_text-requires t c =
     let paid = text_paid c.args.self.now c.part.new.self (key_part c.args.part.now) c.args.dir.now c.part.new.dir c.in_ok-deed.deed c.in-Some.text
-            c.in_ok-deed.ensures.gives c.in-Some.is in
+    c.in_ok-deed.ensures.gives c.in-Some.is in
     omega (arith, paid.0, paid.1, c.in_ok-deed.ensures.kept.budget, ap (λ (ts : List Tok). length ts) c.in-Some.text-is)
 
 pub run_parts-loop-part-preserved : goal.run_parts-loop-part-preserved
@@ -30,8 +30,8 @@ run_parts-returns-in_err-run_part-clause-gives t c =
     let k = c.loop-part.invariant in
     let p = err_from_is_err_and c.from_residual.result c.from_residual.ensures.1 in
     rw (p.1, p.2) (fails_as c.in_err-run_part.field-0.0 _ _ k.told (part_fails c.args.self.now c.loop-part.self k.kept c.loop-part.dir
-        c.loop-part.parts c.next.new.self (key_part c.in-Some.part) c.in-Some.ensures.steps c.in_err-run_part.field-0.0
-        c.in_err-run_part.ensures.gives))
+    c.loop-part.parts c.next.new.self (key_part c.in-Some.part) c.in-Some.ensures.steps c.in_err-run_part.field-0.0
+    c.in_err-run_part.ensures.gives))
 
 pub run_parts-returns-clause-gives : goal.run_parts-returns-clause-gives
 run_parts-returns-clause-gives t c =
@@ -42,7 +42,7 @@ run_text-returns-in_err-first-clause-gives t c =
     let k = c.loop-input.invariant in
     let p = err_from_is_err_and c.from_residual-in_err-first.result c.from_residual-in_err-first.ensures.1 in
     rw (p.1, p.2) (fails_as c.in_err-first.field-0.0 _ _ k.told (next_fails c.args.self.now c.loop-input.self k.kept c.loop-input.dir
-        c.loop-input.input c.in_err-first.field-0.0 c.in_err-first.ensures.gives))
+    c.loop-input.input c.in_err-first.field-0.0 c.in_err-first.ensures.gives))
 
 pub run_text-loop-input-preserved : goal.run_text-loop-input-preserved
 run_text-loop-input-preserved t c =
@@ -51,7 +51,7 @@ run_text-loop-input-preserved t c =
     let n = c.in_ok-set_or_group.ensures in
     let paid = pays_keeps c.loop-input.self c.next.new.self m.pays in
     let kept = keeps_then c.args.self.now c.loop-input.self c.set_or_group.new.self k.kept (keeps_then c.loop-input.self c.next.new.self
-            c.set_or_group.new.self paid n.kept) in
+    c.set_or_group.new.self paid n.kept) in
     record {
       told = k.told ∙ text_goes_on c.args.self.now c.loop-input.self k.kept c.loop-input.dir c.loop-input.input c.next.new.self m.pays
           c.next.new.input c.in-Some.first (rw c.in-Some.is at m.gives) c.set_or_group.new.self c.set_or_group.new.dir
@@ -68,12 +68,12 @@ run_text-returns-in_err-set_or_group-clause-gives t c =
     let m = c.in_ok-first.ensures in
     let p = err_from_is_err_and c.from_residual-in_err-set_or_group.result c.from_residual-in_err-set_or_group.ensures.1 in
     rw (p.1, p.2) (fails_as c.in_err-set_or_group.field-0.0 _ _ k.told (set_fails c.args.self.now c.loop-input.self k.kept c.loop-input.dir
-        c.loop-input.input c.next.new.self m.pays c.next.new.input c.in-Some.first (rw c.in-Some.is at m.gives) c.in_err-set_or_group.field-0.0
-        c.in_err-set_or_group.ensures.gives))
+    c.loop-input.input c.next.new.self m.pays c.next.new.input c.in-Some.first (rw c.in-Some.is at m.gives) c.in_err-set_or_group.field-0.0
+    c.in_err-set_or_group.ensures.gives))
 
 pub run_text-returns-clause-gives : goal.run_text-returns-clause-gives
 run_text-returns-clause-gives t c =
     let k = c.loop-input.invariant in
     let m = c.in_ok-first.ensures in
     k.told ∙ text_ends c.args.self.now c.loop-input.self k.kept c.loop-input.dir c.loop-input.input c.next.new.self m.pays c.next.new.input
-        (rw c.in_default.is at m.gives)
+    (rw c.in_default.is at m.gives)

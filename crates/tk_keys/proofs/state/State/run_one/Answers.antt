@@ -9,9 +9,9 @@ pub returns-in_err-set-clause-gives : goal.returns-in_err-set-clause-gives
 returns-in_err-set-clause-gives c ev is =
     let p = err_from_is_err_and c.from_residual.result c.from_residual.ensures.1 in
     rw (p.1, p.2) (one_fails ev is c.args.self.now c.args.first c.args.input.now c.in-Some.setting c.in-Some.ensures c.in_err-set.field-0.0
-        (rw c.root-dir.ensures at c.in_err-set.ensures.gives))
+    (rw c.root-dir.ensures at c.in_err-set.ensures.gives))
 
 pub returns-clause-gives : goal.returns-clause-gives
 returns-clause-gives c ev is =
     one_set ev is c.args.self.now c.args.first c.args.input.now c.in-Some.setting c.in-Some.ensures c.set.new.self c.set.new.dir c.set.new.input
-        (rw c.root-dir.ensures at c.in_ok-set.ensures.gives)
+    (rw c.root-dir.ensures at c.in_ok-set.ensures.gives)

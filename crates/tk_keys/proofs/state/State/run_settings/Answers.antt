@@ -11,10 +11,10 @@ pub returns-in_err-run_text-clause-gives : goal.returns-in_err-run_text-clause-g
 returns-in_err-run_text-clause-gives c ev is =
     let p = err_from_is_err_and c.from_residual-in_err-run_text.result c.from_residual-in_err-run_text.ensures.1 in
     rw (p.1, p.2) (fails_as c.in_err-run_text.field-0.0 _ _ (runs_by ev is c.args.self.now
-        (Some_settings (standing_of c.args.self.now c.args.dir (unread c.args.list.now c.args.at)))) (rw c.in_ok-list.ensures at
-        c.in_err-run_text.ensures.gives))
+    (Some_settings (standing_of c.args.self.now c.args.dir (unread c.args.list.now c.args.at)))) (rw c.in_ok-list.ensures at
+    c.in_err-run_text.ensures.gives))
 
 pub returns-clause-gives : goal.returns-clause-gives
 returns-clause-gives c ev is =
     runs_by ev is c.args.self.now (Some_settings (standing_of c.args.self.now c.args.dir (unread c.args.list.now c.args.at)))
-        ∙ (rw c.in_ok-list.ensures at c.in_ok-run_text.ensures.gives)
+    ∙ (rw c.in_ok-list.ensures at c.in_ok-run_text.ensures.gives)

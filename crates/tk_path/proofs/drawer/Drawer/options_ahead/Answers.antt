@@ -17,5 +17,5 @@ returns-clause-gives c ev is path =
     subst (λ (m : Answer Configuration). Gives (λ _. configuration_of c.options_from.new.self path c.options_from.new.input) c.options_from.result m)
     (sym (ahead_goes given (configuration_of c.args.self.now path c.args.input.now) first (c.in_ok-first.ensures.gives ev path)))
     (subst (λ (g : Given). Gives (λ _. configuration_of c.options_from.new.self path c.options_from.new.input) c.options_from.result
-        (options_from g first))
+    (options_from g first))
     (ap (λ (d : Drawer). given_of ev d.state) c.in_ok-first.ensures.pays) (c.options_from.ensures.gives ev is path))

@@ -9,6 +9,6 @@ invariant_of-self c =
     let none = ap (λ (p : CurrentPath). p.start) (c.self.view_is ∙ c.take_segs-segs.ensures.path) in
     subst (IsTraced c.push_circle.new.segs) (sym none)
     (circle_added c.take_segs-segs.result c.push_circle.new.segs c.args.matrix c.current_point-centre.result c.args.rx c.args.ry
-        c.take_segs-segs.ensures.first
+    c.take_segs-segs.ensures.first
     (appended_pieces_trace c.take_segs-segs.result c.push_circle.new.segs c.in_ok-done.done _ (sym c.if-is_ok.ensures.value)
-        c.in_ok-done.ensures.gives))
+    c.in_ok-done.ensures.gives))

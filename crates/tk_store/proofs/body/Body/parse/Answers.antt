@@ -18,7 +18,7 @@ pub loop-first-preserved : goal.loop-first-preserved
 loop-first-preserved c = record {
   told = goes c.args.args c.loop-first.toks.items c.loop-first.rest.now _ c.loop-first.invariant.told
       c.in-Some.first.now c.in-Some.tail.now (search rules) c.in_ok-tok.tok c.in_ok-tok.behind.now c.push.new.self.items c.in_ok-tok.ensures.gives
-          c.in_ok-push.ensures.items;
+      c.in_ok-push.ensures.items;
   places = grind (arith, common_steps);
 }
 

@@ -29,7 +29,7 @@ returns-in_err-insert-clause-absent c =
 pub returns-clause-number : goal.returns-clause-number
 returns-clause-number c =
     new_word_at c.self.inside.words.keys c.insert.new.self.keys c.in_ok-word.word c.args.word.now c.len-last.result c.in_ok-word.ensures.ok
-        (sym c.in_default.ensures.found) c.in_ok-insert.ensures.keys c.len-last.ensures.len
+    (sym c.in_default.ensures.found) c.in_ok-insert.ensures.keys c.len-last.ensures.len
 
 pub returns-clause-once : goal.returns-clause-once
 returns-clause-once c = each_once c.insert.new.self.keys c.insert.ensures.unique
