@@ -1,7 +1,8 @@
-//! Tests of what no contract says: that each call succeeds with ample memory, and values worked out by hand.
+//! Tests of what neither a contract nor the program's output says: what runs cost, with budgets of all sizes, and runs that
+//! aren't a picture's. They succeed with ample memory, on values worked out by hand.
 #![tactic(auto)]
 
 #[cfg(test)]
-mod documents;
-#[cfg(test)]
 mod pictures;
+#[cfg(test)]
+mod runs;

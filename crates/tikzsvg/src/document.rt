@@ -18,7 +18,7 @@ use tk_svgwrite::write_svg;
 use tk_token::{Refusal, place};
 
 /// Why a file gives no document.
-#[derive(Clone, Copy, Debug, PartialEq, Eq)]
+#[derive(Clone, Copy, PartialEq, Eq)]
 pub enum NoDocument {
     /// The shelf failed.
     ReadFault,

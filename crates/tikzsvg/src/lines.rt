@@ -7,7 +7,7 @@ use std::alloc::{AllocError, Global};
 use tk_token::Code;
 
 /// A fault, with its line and column.
-#[derive(Clone, Copy, Debug, PartialEq, Eq)]
+#[derive(Clone, Copy, PartialEq, Eq)]
 pub struct Placed {
     pub code: Code,
     pub line: u32,

@@ -22,7 +22,7 @@ const WRITE_FAULT: &[u8] = b"tikzsvg: WriteFault\n";
 const OUT_OF_MEMORY: &[u8] = b"tikzsvg: OutOfMemory\n";
 
 /// How a run ends. Its number is the status of the process.
-#[derive(Clone, Copy, Debug, PartialEq, Eq)]
+#[derive(Clone, Copy, PartialEq, Eq)]
 pub enum Status {
     /// The document was written.
     Done = 0,

@@ -17,14 +17,14 @@ use std::io::ErrorKind;
 const BUDGET: u64 = 10_000_000;
 
 /// What the words ask for.
-#[derive(Clone, Copy, Debug)]
+#[derive(Clone, Copy)]
 pub enum Command<'a> {
     /// The SVG document of a file, with so many units to pay for its macros.
     Render { file: &'a str, budget: u64 },
 }
 
 /// Why the host gave no words.
-#[derive(Clone, Copy, Debug, PartialEq, Eq)]
+#[derive(Clone, Copy, PartialEq, Eq)]
 pub enum NoWords {
     /// No memory was left for them.
     OutOfMemory,

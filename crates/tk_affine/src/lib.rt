@@ -19,7 +19,7 @@ use tk_num::Scaled;
 
 /// A linear part and a shift. The image of (x,y) is (a*x + c*y + tx, b*x + d*y + ty), where `a` to `d`
 /// count 65536ths and `tx` and `ty` scaled points.
-#[derive(Clone, Copy, Debug, PartialEq, Eq)]
+#[derive(Clone, Copy, PartialEq, Eq)]
 pub struct Matrix {
     pub a: Scaled,
     pub b: Scaled,
@@ -44,7 +44,7 @@ impl Default for Matrix {
 /// One step of a transformation. `Shift` has scaled points, `Rotate` an angle of 65536ths of a degree,
 /// counterclockwise, `Scale` and `Slant` factors of 65536ths, that of x first. `Slant` takes (x,y) to
 /// (x + f*y, y + g*x), where f is its first factor and g its second.
-#[derive(Clone, Copy, Debug, PartialEq, Eq)]
+#[derive(Clone, Copy, PartialEq, Eq)]
 pub enum Step {
     Shift(Scaled, Scaled),
     Rotate(Scaled),
@@ -67,14 +67,14 @@ impl Default for Step {
 
 /// Why there is no point or matrix to give: a number of it is out of range, or the inverse that is needed
 /// is that of a matrix whose determinant is 0.
-#[derive(Clone, Copy, Debug, PartialEq, Eq)]
+#[derive(Clone, Copy, PartialEq, Eq)]
 pub enum AffFault {
     TooLarge,
     Singular,
 }
 
 /// The shape of a node.
-#[derive(Clone, Copy, Debug, PartialEq, Eq)]
+#[derive(Clone, Copy, PartialEq, Eq)]
 pub enum Shape {
     Rectangle,
     Circle,
@@ -82,7 +82,7 @@ pub enum Shape {
 }
 
 /// A place of a node. `Angle` is the place of its border in a direction of 65536ths of a degree.
-#[derive(Clone, Copy, Debug, PartialEq, Eq)]
+#[derive(Clone, Copy, PartialEq, Eq)]
 pub enum Anchor {
     Center,
     North,

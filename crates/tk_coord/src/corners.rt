@@ -11,7 +11,7 @@ use tk_look::answer_at;
 use tk_token::{Fault, Tok, begins_pair};
 
 /// How a corner leads from one point to another.
-#[derive(Clone, Copy, Debug, PartialEq, Eq)]
+#[derive(Clone, Copy, PartialEq, Eq)]
 pub enum CornerSign {
     /// `-|`: along the first axis, then along the second one.
     HorizontalFirst,

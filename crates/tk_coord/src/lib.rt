@@ -14,7 +14,7 @@ pub use points::resolve;
 use tk_item::Point;
 
 /// What the text of a coordinate stands for.
-#[derive(Clone, Copy, Debug, PartialEq, Eq)]
+#[derive(Clone, Copy, PartialEq, Eq)]
 pub struct Target {
     /// Where it lies, in scaled points.
     pub point: Point,

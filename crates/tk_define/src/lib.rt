@@ -9,7 +9,7 @@ pub use commands::read_definition;
 use tk_store::Macro;
 
 /// The commands that define macros.
-#[derive(Clone, Copy, Debug, PartialEq, Eq)]
+#[derive(Clone, Copy, PartialEq, Eq)]
 pub enum Command {
     /// `\def`
     Def,

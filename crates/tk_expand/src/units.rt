@@ -6,7 +6,7 @@ ghost use Rattle.tk_expand.specs.Expand.{pay};
 use tk_token::{Code, Fault};
 
 /// The units that were paid, and how many may be paid.
-#[derive(Clone, Copy, Debug, PartialEq, Eq)]
+#[derive(Clone, Copy, PartialEq, Eq)]
 pub struct Units {
     pub used: u64,
     pub budget: u64,

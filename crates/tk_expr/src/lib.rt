@@ -24,21 +24,21 @@ use tk_num::Scaled;
 pub use values::placed;
 
 /// The units of the font, in scaled points.
-#[derive(Clone, Copy, Debug, Default, PartialEq, Eq)]
+#[derive(Clone, Copy, Default, PartialEq, Eq)]
 pub struct FontUnits {
     pub em: Scaled,
     pub ex: Scaled,
 }
 
 /// What an expression stands for: its number in 65536ths, and whether a unit stands anywhere in its text.
-#[derive(Clone, Copy, Debug, Default, PartialEq, Eq)]
+#[derive(Clone, Copy, Default, PartialEq, Eq)]
 pub struct Value {
     pub number: Scaled,
     pub unit: bool,
 }
 
 /// The numbers of a coordinate: `x,y`, or an angle with the two radii.
-#[derive(Clone, Copy, Debug, PartialEq, Eq)]
+#[derive(Clone, Copy, PartialEq, Eq)]
 pub enum ValuePair {
     Plane(Value, Value),
     Polar(Scaled, Value, Value),

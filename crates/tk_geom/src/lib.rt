@@ -24,7 +24,7 @@ pub use segments::on_segment;
 use tk_item::Point;
 
 /// What a path drew last, on which a node may be waypoint.
-#[derive(Clone, Copy, Debug, PartialEq, Eq)]
+#[derive(Clone, Copy, PartialEq, Eq)]
 pub enum Last {
     /// Nothing that has places, as before the first operation or after a circle: each place is that point.
     Nowhere(Point),

@@ -27,7 +27,7 @@ pub use sure::SureShelf;
 pub use writing::write_all;
 
 /// The one way in which a call of a shelf or a sink fails.
-#[derive(Clone, Copy, Debug, PartialEq, Eq)]
+#[derive(Clone, Copy, PartialEq, Eq)]
 pub struct Failed;
 
 /// Files under their names, of which one is open at a time. The name `-` is standard input.

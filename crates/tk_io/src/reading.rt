@@ -15,7 +15,7 @@ pub const MOST_BYTES: usize = 16_777_216;
 const STEP: usize = 65_536;
 
 /// Why a file isn't read.
-#[derive(Clone, Copy, Debug, PartialEq, Eq)]
+#[derive(Clone, Copy, PartialEq, Eq)]
 pub enum ReadRefusal {
     /// A call of the shelf failed.
     Failed,

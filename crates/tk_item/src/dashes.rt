@@ -8,7 +8,7 @@ use std::marker::Model;
 use tk_num::Scaled;
 
 /// The lengths on and off in turn, at most sixteen, of which none is negative. It takes no memory.
-#[derive(Debug, Drop)]
+#[derive(Drop)]
 pub struct Dashes {
     lengths: ArrayVec<Scaled, 16>,
 }

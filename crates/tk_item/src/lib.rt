@@ -13,7 +13,7 @@ pub use lists::{Items, Segs, Text};
 use tk_num::Scaled;
 
 /// A point, in scaled points.
-#[derive(Clone, Copy, Debug, Default, PartialEq, Eq)]
+#[derive(Clone, Copy, Default, PartialEq, Eq)]
 pub struct Point {
     pub x: Scaled,
     pub y: Scaled,
@@ -22,7 +22,7 @@ pub struct Point {
 /// A piece of a path. A path that is drawn begins with a `Move`; each other piece starts where the one
 /// before ended, and `Close` goes back to the last `Move`. `Curve` has its two control points and its
 /// end.
-#[derive(Clone, Copy, Debug, PartialEq, Eq)]
+#[derive(Clone, Copy, PartialEq, Eq)]
 pub enum Seg {
     Move(Point),
     Line(Point),
@@ -31,7 +31,7 @@ pub enum Seg {
 }
 
 /// A colour of red, green and blue.
-#[derive(Clone, Copy, Debug, Default, PartialEq, Eq)]
+#[derive(Clone, Copy, Default, PartialEq, Eq)]
 pub struct Rgb {
     pub r: u8,
     pub g: u8,
@@ -39,14 +39,14 @@ pub struct Rgb {
 }
 
 /// Which points are inside a path (SVG 1.1, section 11.3, Fill Properties, `fill-rule`).
-#[derive(Clone, Copy, Debug, PartialEq, Eq)]
+#[derive(Clone, Copy, PartialEq, Eq)]
 pub enum Rule {
     NonZero,
     EvenOdd,
 }
 
 /// How an open line ends (SVG 1.1, section 11.4, Stroke Properties, `stroke-linecap`).
-#[derive(Clone, Copy, Debug, PartialEq, Eq)]
+#[derive(Clone, Copy, PartialEq, Eq)]
 pub enum Cap {
     Butt,
     Round,
@@ -54,7 +54,7 @@ pub enum Cap {
 }
 
 /// How two lines meet (SVG 1.1, section 11.4, Stroke Properties, `stroke-linejoin`).
-#[derive(Clone, Copy, Debug, PartialEq, Eq)]
+#[derive(Clone, Copy, PartialEq, Eq)]
 pub enum Join {
     Miter,
     Round,
@@ -62,7 +62,7 @@ pub enum Join {
 }
 
 /// How a path is filled.
-#[derive(Clone, Copy, Debug, PartialEq, Eq)]
+#[derive(Clone, Copy, PartialEq, Eq)]
 pub struct Fill {
     pub rgb: Rgb,
     pub rule: Rule,
@@ -71,7 +71,7 @@ pub struct Fill {
 /// How a path is drawn. The width, the dashes and their phase are lengths, and `miter` is a ratio in
 /// 65536ths. In a drawing that is written no width is negative, and no miter limit is below 65536, that
 /// is, 1.
-#[derive(Debug, Drop)]
+#[derive(Drop)]
 pub struct Stroke {
     pub rgb: Rgb,
     pub width: Scaled,
@@ -84,7 +84,7 @@ pub struct Stroke {
 
 /// A text at a point. The linear part of its matrix is `a`, `b`, `c`, `d` in 65536ths: the text's own
 /// (x, y) stands at (a*x + c*y, b*x + d*y) from the point.
-#[derive(Debug, Drop)]
+#[derive(Drop)]
 pub struct Label {
     pub at: Point,
     pub a: Scaled,
@@ -96,7 +96,7 @@ pub struct Label {
 }
 
 /// A thing in a drawing.
-#[derive(Debug, Drop)]
+#[derive(Drop)]
 pub enum Item {
     Path(Segs, Option<Fill>, Option<Stroke>),
     Label(Label),
@@ -104,7 +104,7 @@ pub enum Item {
 
 /// A box, in scaled points. What `widen` makes has its left side at most at the right one, and its bottom
 /// at most at the top. A side may lie past the range of `Scaled`, by half of a width.
-#[derive(Clone, Copy, Debug, Default, PartialEq, Eq)]
+#[derive(Clone, Copy, Default, PartialEq, Eq)]
 pub struct Frame {
     pub left: i64,
     pub bottom: i64,
@@ -114,7 +114,7 @@ pub struct Frame {
 
 /// What a picture draws: its items from the back to the front, the frame round them, and the font.
 /// `size` is the font's size in scaled points.
-#[derive(Debug, Drop)]
+#[derive(Drop)]
 pub struct Drawing {
     pub frame: Frame,
     pub family: Text,

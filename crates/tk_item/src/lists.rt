@@ -9,7 +9,7 @@ use std::alloc::{AllocError, Global};
 use std::marker::Model;
 
 /// The pieces of a path, in order.
-#[derive(Debug, Drop)]
+#[derive(Drop)]
 pub struct Segs {
     items: Vec<Seg>,
 }
@@ -51,7 +51,7 @@ impl Segs {
 }
 
 /// The characters of a text, in order.
-#[derive(Debug, Drop)]
+#[derive(Drop)]
 pub struct Text {
     items: Vec<char>,
 }
@@ -97,7 +97,7 @@ impl Text {
 }
 
 /// The items of a drawing, in order.
-#[derive(Debug, Drop)]
+#[derive(Drop)]
 pub struct Items {
     items: Vec<Item>,
 }

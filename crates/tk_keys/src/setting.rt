@@ -9,7 +9,7 @@ use tk_define::Command;
 use tk_token::Kind;
 
 /// The default path that a key list begins with.
-#[derive(Clone, Copy, Debug, PartialEq, Eq)]
+#[derive(Clone, Copy, PartialEq, Eq)]
 pub(crate) enum Origin {
     Root,
     /// The running default path.
@@ -19,7 +19,7 @@ pub(crate) enum Origin {
 }
 
 /// The settings, by what they do.
-#[derive(Clone, Copy, Debug, PartialEq, Eq)]
+#[derive(Clone, Copy, PartialEq, Eq)]
 pub(crate) enum Setting {
     /// `\relax`, a Space and `;` set nothing.
     Nothing,

@@ -14,7 +14,7 @@ pub use lists::{Part, Parts, split_list};
 pub use paths::{full_path, last_part, name_in, parent_of, path_below};
 
 /// What a key whose last part has a name of its own does with the key before it.
-#[derive(Clone, Copy, Debug, PartialEq, Eq)]
+#[derive(Clone, Copy, PartialEq, Eq)]
 pub enum Handler {
     /// `.cd`
     Cd,

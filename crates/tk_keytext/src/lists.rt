@@ -14,7 +14,7 @@ use tk_token::{Tok, after_spaces, before_char, trimmed, unbraced};
 
 /// A part of a key list: the name of a key, and its value if it has one. The Spaces round both are left out, and then
 /// one outer pair of braces of the value.
-#[derive(Clone, Copy, Debug, PartialEq, Eq)]
+#[derive(Clone, Copy, PartialEq, Eq)]
 pub struct Part<'a> {
     pub name: &'a [Tok],
     pub value: Option<&'a [Tok]>,

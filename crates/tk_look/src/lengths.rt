@@ -6,7 +6,7 @@ use std::marker::Model;
 use tk_num::Scaled;
 
 /// The width of a line in scaled points, which isn't negative.
-#[derive(Clone, Copy, Debug, PartialEq, Eq)]
+#[derive(Clone, Copy, PartialEq, Eq)]
 pub struct LineWidth {
     width: Scaled,
 }
@@ -45,7 +45,7 @@ impl LineWidth {
 }
 
 /// How long a miter may be, in 65536ths of the line width: at least one line width.
-#[derive(Clone, Copy, Debug, PartialEq, Eq)]
+#[derive(Clone, Copy, PartialEq, Eq)]
 pub struct MiterLimit {
     limit: Scaled,
 }
@@ -84,7 +84,7 @@ impl MiterLimit {
 }
 
 /// A place on a line, in 65536ths of it: from eight of its lengths before its beginning to eight behind it.
-#[derive(Clone, Copy, Debug, PartialEq, Eq)]
+#[derive(Clone, Copy, PartialEq, Eq)]
 pub struct Position {
     place: Scaled,
 }

@@ -25,7 +25,7 @@ use tk_num::Scaled;
 
 /// How what follows is painted and placed. Lengths are in scaled points, angles in 65536ths of a degree, and a `Value`
 /// without a unit counts vectors of the picture.
-#[derive(Debug, Drop)]
+#[derive(Drop)]
 pub struct Look {
     /// The name that a node gets.
     pub name: Option<NodeName>,
@@ -80,7 +80,7 @@ pub struct Look {
 }
 
 /// Where and how what follows is drawn.
-#[derive(Debug, Drop)]
+#[derive(Drop)]
 pub struct GraphicsState {
     /// What the steps of the transformation so far make.
     pub matrix: Matrix,

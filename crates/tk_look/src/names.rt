@@ -6,7 +6,7 @@ use std::alloc::{AllocError, Global};
 use std::marker::Model;
 
 /// The name of a node.
-#[derive(Debug, Drop)]
+#[derive(Drop)]
 pub struct NodeName {
     text: String,
 }

@@ -9,7 +9,7 @@ pub use laws::names_stand_for_their_keys;
 pub use tables::{NATIVES, STYLES};
 
 /// A key that is there from the beginning.
-#[derive(Clone, Copy, Debug, PartialEq, Eq)]
+#[derive(Clone, Copy)]
 pub enum Native {
     /// It sets something of the look.
     Look(LookKey),
@@ -18,7 +18,7 @@ pub enum Native {
 }
 
 /// A key that sets something of the look, by what its value is.
-#[derive(Clone, Copy, Debug, PartialEq, Eq)]
+#[derive(Clone, Copy)]
 pub enum LookKey {
     /// A colour.
     Colour(ColourKey),
@@ -55,7 +55,7 @@ pub enum LookKey {
 }
 
 /// A key that makes steps of the transformation, by what its value is.
-#[derive(Clone, Copy, Debug, PartialEq, Eq)]
+#[derive(Clone, Copy)]
 pub enum TransformKey {
     /// A number or a length.
     Step(StepKey),
@@ -70,7 +70,7 @@ pub enum TransformKey {
 }
 
 /// What takes a colour.
-#[derive(Clone, Copy, Debug, PartialEq, Eq)]
+#[derive(Clone, Copy)]
 pub enum ColourKey {
     /// Lines, fills and text.
     Color,
@@ -79,14 +79,14 @@ pub enum ColourKey {
 }
 
 /// How a path is painted.
-#[derive(Clone, Copy, Debug, PartialEq, Eq)]
+#[derive(Clone, Copy)]
 pub enum PaintKey {
     Draw,
     Fill,
 }
 
 /// What takes a length.
-#[derive(Clone, Copy, Debug, PartialEq, Eq)]
+#[derive(Clone, Copy)]
 pub enum LengthKey {
     DashPhase,
     X,
@@ -103,7 +103,7 @@ pub enum LengthKey {
 }
 
 /// An angle of an arc.
-#[derive(Clone, Copy, Debug, PartialEq, Eq)]
+#[derive(Clone, Copy)]
 pub enum AngleKey {
     Start,
     End,
@@ -111,7 +111,7 @@ pub enum AngleKey {
 }
 
 /// What keeps whether a unit was written.
-#[derive(Clone, Copy, Debug, PartialEq, Eq)]
+#[derive(Clone, Copy)]
 pub enum MeasureKey {
     Radius,
     XRadius,
@@ -122,7 +122,7 @@ pub enum MeasureKey {
 }
 
 /// A step of the transformation that is made of one number.
-#[derive(Clone, Copy, Debug, PartialEq, Eq)]
+#[derive(Clone, Copy)]
 pub enum StepKey {
     XShift,
     YShift,
@@ -135,7 +135,7 @@ pub enum StepKey {
 }
 
 /// What is so where the key stands, whatever its value.
-#[derive(Clone, Copy, Debug, PartialEq, Eq)]
+#[derive(Clone, Copy)]
 pub enum FlagKey {
     Solid,
     Dotted,
@@ -148,7 +148,7 @@ pub enum FlagKey {
 }
 
 /// A side of a place.
-#[derive(Clone, Copy, Debug, PartialEq, Eq)]
+#[derive(Clone, Copy)]
 pub enum Side {
     Above,
     Below,

@@ -22,7 +22,7 @@ pub use unit::{Unit, with_unit};
 const MOST: i64 = 1_073_741_823;
 
 /// A number of 65536ths, at most 1,073,741,823 either way.
-#[derive(Clone, Copy, Debug, Default, PartialEq, Eq, PartialOrd, Ord)]
+#[derive(Clone, Copy, Default, PartialEq, Eq, PartialOrd, Ord)]
 pub struct Scaled {
     sp: i64,
 }
@@ -40,7 +40,7 @@ impl Model for Scaled {
 }
 
 /// Why there is no number to give.
-#[derive(Clone, Copy, Debug, PartialEq, Eq)]
+#[derive(Clone, Copy, PartialEq, Eq)]
 pub enum NumFault {
     TooLarge,
     DivZero,

@@ -8,7 +8,7 @@ use crate::arithmetic::{cut, in_range};
 use crate::{NumFault, Scaled};
 
 /// The units of a length: those of TeX, with scaled points and the two units of a font.
-#[derive(Clone, Copy, Debug, PartialEq, Eq)]
+#[derive(Clone, Copy, PartialEq, Eq)]
 pub enum Unit {
     Pt,
     Pc,

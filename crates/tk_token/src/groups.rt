@@ -12,7 +12,7 @@ ghost use Rattle.tk_token.specs.Spaces as spaces;
 use crate::{Kind, Tok};
 
 /// What is sought outside braces.
-#[derive(Clone, Copy, Debug, PartialEq, Eq)]
+#[derive(Clone, Copy, PartialEq, Eq)]
 pub enum Sought {
     /// That character.
     Char(char),

@@ -29,7 +29,7 @@ use std::alloc::{AllocError, AllocFailed};
 pub use texts::{text_in, text_into, tokens_of};
 
 /// What a token is.
-#[derive(Clone, Copy, Debug, PartialEq, Eq)]
+#[derive(Clone, Copy, PartialEq, Eq)]
 pub enum Kind {
     /// A character that stands for itself.
     Char(char),
@@ -51,7 +51,7 @@ pub enum Kind {
 }
 
 /// A token, with the byte offset of its first byte.
-#[derive(Clone, Copy, Debug, PartialEq, Eq)]
+#[derive(Clone, Copy, PartialEq, Eq)]
 pub struct Tok {
     pub kind: Kind,
     pub at: u32,

@@ -11,7 +11,7 @@ use tk_svgwrite::write_svg;
 use tk_token::{Code, Refusal, place};
 
 /// A fault with its line and column, counted from 1.
-#[derive(Clone, Copy, Debug, PartialEq, Eq)]
+#[derive(Clone, Copy, PartialEq, Eq)]
 pub struct FaultAt {
     pub code: Code,
     pub line: u32,
@@ -19,7 +19,7 @@ pub struct FaultAt {
 }
 
 /// Why a source has no document.
-#[derive(Clone, Copy, Debug, PartialEq, Eq)]
+#[derive(Clone, Copy, PartialEq, Eq)]
 pub enum NoSvg {
     /// The source's first fault.
     Fault(FaultAt),

@@ -2,11 +2,21 @@
 
 ghost use Rattle.std.specs.Prelude.{◌≤◌, unsigned_abs};
 
-use crate::values::{MOST, point};
 use std::test::Fail;
 use tk_affine::AffFault;
 use tk_geom::{Last, on_segment};
+use tk_item::Point;
 use tk_num::Scaled;
+
+/// The greatest number.
+const MOST: i64 = 1_073_741_823;
+
+fn point(p: [i64; 2]) -> Result<Point, Fail> {
+    Ok(Point {
+        x: Scaled::new(p[0]).ok_or("out of range")?,
+        y: Scaled::new(p[1]).ok_or("out of range")?,
+    })
+}
 
 /// The two coordinates of a place and the two numbers of its direction, or the fault.
 type Found = Result<[i64; 4], AffFault>;
@@ -57,7 +67,7 @@ fn places_on_lines_and_corners(rt: HostRuntime) -> Result<(), Fail> {
         (found(&corner, 81_920), Ok([100, -61, 0, -41])),
     ];
     for (place, expected) in rows {
-        assert!(rt; place == expected, "{expected:?}");
+        assert!(rt; place == expected);
     }
     Ok(())
 }
@@ -99,7 +109,7 @@ fn places_on_curves(rt: HostRuntime) -> Result<(), Fail> {
         (found(&wide, 65_537), Err(AffFault::TooLarge)),
     ];
     for (place, expected) in rows {
-        assert!(rt; place == expected, "{expected:?}");
+        assert!(rt; place == expected);
     }
     Ok(())
 }

@@ -3,44 +3,7 @@
 use std::alloc::{AllocError, Global};
 use std::test::Fail;
 use tk_store::{Body, Entry, Macro, Need, Run, Store};
-use tk_token::{Code, Fault, Kind, Refusal, Tok};
-
-/// So many arguments, what is written between the braces, and the body, with the place of an argument as its digit in
-/// brackets.
-const READ: [(u8, &str, &str); 14] = [
-    (0, "", ""),
-    (0, "a", "a"),
-    (0, "{a b}", "{a b}"),
-    (0, "##", "#"),
-    (0, "a##1", "a#1"),
-    (0, "####", "##"),
-    (1, "#1", "[1]"),
-    (1, "(#1)", "([1])"),
-    (1, "##1#1", "#1[1]"),
-    (1, "###1", "#[1]"),
-    (1, "#1#1#1", "[1][1][1]"),
-    (2, "#2-#1", "[2]-[1]"),
-    (9, "#9#1 #10", "[9][1] [1]0"),
-    (9, "a", "a"),
-];
-
-/// So many arguments, what is written between the braces, and the place of the first `#` that doesn't fit.
-const MISFITS: [(u8, &str, u32); 14] = [
-    (0, "#", 0),
-    (0, "a###", 3),
-    (0, "#1", 0),
-    (0, "##{#####}", 7),
-    (1, "#", 0),
-    (1, "#0", 0),
-    (1, "#2", 0),
-    (1, "#x", 0),
-    (1, "# 1", 0),
-    (1, "#{1}", 0),
-    (1, "#1#2#", 2),
-    (1, "{{#1}#}", 5),
-    (8, "#8#9", 2),
-    (9, "#:#", 0),
-];
+use tk_token::Refusal;
 
 /// A call of a store. A macro is told by its number of arguments, an entry by the number that it runs.
 #[derive(Clone, Copy)]
@@ -148,92 +111,10 @@ const KEY_CALLS: [Call; 34] = [
     Call::HasKey("/tikz/scale", Some(1)),
 ];
 
-fn kind_of(character: char) -> Kind {
-    match character {
-        '#' => Kind::Param,
-        '{' => Kind::Open,
-        '}' => Kind::Close,
-        ' ' => Kind::Space,
-        _ => Kind::Char(character),
-    }
-}
-
-/// The tokens of a text, each at the place of its character.
-fn written(alloc: Global, text: &str) -> Result<Vec<Tok>, AllocError> {
-    let mut toks = Vec::new(alloc);
-    let mut at: u32 = 0;
-    for character in text.chars() {
-        let kind = kind_of(character);
-        toks.push(Tok { kind, at })?;
-        at = at.saturating_add(1);
-    }
-    Ok(toks)
-}
-
-fn show(text: &mut String, kind: Kind) -> Result<(), AllocError> {
-    match kind {
-        Kind::Char(character) => text.push(character),
-        Kind::Open => text.push('{'),
-        Kind::Close => text.push('}'),
-        Kind::Param => text.push('#'),
-        Kind::Space => text.push(' '),
-        Kind::Arg(n) => {
-            text.push('[')?;
-            text.push(char::from(n.saturating_add(b'0')))?;
-            text.push(']')
-        }
-        Kind::Word(_) | Kind::Symbol(_) => text.push('\\'),
-    }
-}
-
-/// A body as text.
-fn shown(alloc: Global, body: &Body) -> Result<String, AllocError> {
-    let mut text = String::new(alloc);
-    for tok in body.as_slice() {
-        show(&mut text, tok.kind)?;
-    }
-    Ok(text)
-}
-
-/// Whether a text is read as that body.
-fn is_read_so(alloc: Global, args: u8, text: &str, wanted: &str) -> Result<bool, Refusal> {
-    let body = Body::parse(alloc, args, &written(alloc, text)?)?;
-    Ok(shown(alloc, &body)?.as_str() == wanted)
-}
-
-/// Whether a text is refused for the `#` at that place.
-fn is_refused_at(alloc: Global, args: u8, text: &str, at: u32) -> Result<bool, AllocError> {
-    let code = Code::MacroSyntax;
-    let given = Body::parse(alloc, args, &written(alloc, text)?);
-    Ok(given.err() == Some(Refusal::Fault(Fault { code, at })))
-}
-
-/// Whether copies have the tokens of what was copied.
-fn has_copies(alloc: Global, text: &str) -> Result<bool, AllocError> {
-    let body = Body::from_vec(written(alloc, text)?)?;
-    let copy = body.clone()?;
-    let other = Body::new(alloc, body.as_slice())?;
-    drop(body);
-    let texts = [shown(alloc, &copy)?, shown(alloc, &other)?];
-    Ok(texts.iter().all(|it| it.as_str() == text))
-}
-
-#[test]
-fn bodies_are_read(rt: HostRuntime) -> Result<(), Fail> {
-    for (args, text, wanted) in &READ {
-        assert!(rt; is_read_so(rt.alloc(), *args, text, wanted)?, "{text}");
-    }
-    for (args, text, at) in &MISFITS {
-        assert!(rt; is_refused_at(rt.alloc(), *args, text, *at)?, "{text}");
-    }
-    assert!(rt; has_copies(rt.alloc(), "a{b} #")?);
-    Ok(())
-}
-
 fn value(alloc: Global, args: u8) -> Result<Macro, Refusal> {
     Ok(Macro {
         args,
-        body: Body::parse(alloc, args, &[])?,
+        body: Body::new(alloc, &[])?,
     })
 }
 
@@ -293,36 +174,6 @@ fn settings_end_with_their_levels(rt: HostRuntime) -> Result<(), Fail> {
         count == KEY_CALLS.len() && store.level() == 0,
         "call {count} of keys"
     );
-    Ok(())
-}
-
-/// Opens 128 levels, and sets one more word at each.
-fn deepen(alloc: Global, store: &mut Store) -> Result<(), Refusal> {
-    for word in 0..128 {
-        made(alloc, store, &[Call::Open, Call::Set(word, 7)])?;
-    }
-    Ok(())
-}
-
-/// Closes 128 levels: how many of them end with their word.
-fn ended(alloc: Global, store: &mut Store) -> Result<u32, Refusal> {
-    let mut count: u32 = 0;
-    for word in 0..128 {
-        let word = 127 - word;
-        let calls = [Call::Has(word, 7), Call::Close, Call::HasNone(word)];
-        if made(alloc, store, &calls)? == 3 {
-            count = count.saturating_add(1);
-        }
-    }
-    Ok(count)
-}
-
-#[test]
-fn levels_are_open_up_to_128(rt: HostRuntime) -> Result<(), Fail> {
-    let mut store = Store::new(rt.alloc())?;
-    deepen(rt.alloc(), &mut store)?;
-    assert!(rt; store.level() == 128);
-    assert!(rt; ended(rt.alloc(), &mut store)? == 128 && store.level() == 0);
     Ok(())
 }
 

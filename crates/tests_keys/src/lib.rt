@@ -1,7 +1,0 @@
-//! Tests of what no contract says: that each call succeeds with ample memory, and values worked out by hand.
-#![tactic(auto)]
-
-#[cfg(test)]
-mod keys;
-#[cfg(test)]
-mod looks;

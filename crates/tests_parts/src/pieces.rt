@@ -1,0 +1,96 @@
+//! Pieces alone, turns into a direction, and the last part of a path.
+
+ghost use Rattle.std.specs.Prelude.{◌≤◌, ◌^◌, unsigned_abs};
+
+use std::alloc::Global;
+use std::test::Fail;
+use tk_affine::{Matrix, along, identity};
+use tk_expand::Units;
+use tk_geom::{arc, circle, grid, rectangle};
+use tk_item::{Point, Seg};
+use tk_keytext::last_part;
+use tk_num::Scaled;
+
+fn point(x: i64, y: i64) -> Result<Point, Fail> {
+    Ok(Point {
+        x: Scaled::new(x).ok_or("out of range")?,
+        y: Scaled::new(y).ok_or("out of range")?,
+    })
+}
+
+/// Where the pieces lead, one after another; a Close leads nowhere.
+fn has_ends(pieces: &[Seg], ends: &[(i64, i64)]) -> bool {
+    let mut rest = ends;
+    for piece in pieces {
+        let end = match piece {
+            Seg::Move(end) | Seg::Line(end) | Seg::Curve(_, _, end) => end,
+            Seg::Close => continue,
+        };
+        match rest.split_first() {
+            Some((first, others)) if *first == (end.x.sp(), end.y.sp()) => rest = others,
+            _ => return false,
+        }
+    }
+    rest.is_empty()
+}
+
+/// Whether outlines of small numbers have their pieces.
+fn outlines_are_drawn(alloc: Global) -> Result<bool, Fail> {
+    let (p, q) = (point(1, 2)?, point(5, 9)?);
+    let (ten, turn) = (Scaled::within(10), Scaled::within(90 * 65_536));
+    let round = circle(alloc, identity(), p, ten, ten)?;
+    let quarter = arc(alloc, identity(), p, Scaled::within(0), turn, ten, ten)?;
+    let box_of = rectangle(alloc, identity(), p, q)?;
+    Ok(
+        matches!(round, Ok(segs) if has_ends(segs.as_slice(), &[(11, 2), (1, 12), (-9, 2), (1, -8), (11, 2)]))
+            // The centre of the arc is at (-9,2).
+            && matches!(quarter, Ok(segs) if has_ends(segs.as_slice(), &[(-9, 12)]))
+            && matches!(box_of, Ok(segs) if has_ends(segs.as_slice(), &[(1, 2), (5, 2), (5, 9), (1, 9)])),
+    )
+}
+
+/// Whether a grid has its lines: one at x = 4, then one at y = 4 and one at y = 8.
+fn a_grid_is_drawn(alloc: Global) -> Result<bool, Fail> {
+    let mut units = Units { used: 0, budget: 3 };
+    let (p, q, step) = (point(1, 2)?, point(5, 9)?, Scaled::within(4));
+    let found = grid(alloc, identity(), p, q, step, step, &mut units, 7);
+    let ends = [(4, 2), (4, 9), (1, 4), (5, 4), (1, 8), (5, 8)];
+    Ok(units.used == 3 && matches!(found, Ok(segs) if has_ends(segs.as_slice(), &ends)))
+}
+
+#[test]
+fn pieces_are_drawn_alone(rt: HostRuntime) -> Result<(), Fail> {
+    assert!(rt; outlines_are_drawn(rt.alloc())?);
+    assert!(rt; a_grid_is_drawn(rt.alloc())?);
+    Ok(())
+}
+
+/// The first column of a turn into a direction.
+fn turned(dx: i64, dy: i64) -> (i64, i64)
+    requires dx { unsigned_abs dx ≤ 2 ^ 40 }
+    requires dy { unsigned_abs dy ≤ 2 ^ 40 }
+{
+    let Matrix { a, b, .. } = along(dx, dy);
+    (a.sp(), b.sp())
+}
+
+#[test]
+fn directions_and_parts(rt: HostRuntime) {
+    let rows = [
+        // The length of (3,4) is 5: 39321.6 and 52428.8. That of (1,1) is cut to 1.
+        (turned(3, 4), (39_321, 52_428)),
+        (turned(-3, 4), (-39_321, 52_428)),
+        (turned(0, -5), (0, -65_536)),
+        (turned(1, 1), (65_536, 65_536)),
+        // 65536 over the root of 2 is 46340.95.
+        (
+            turned(1_099_511_627_776, -1_099_511_627_776),
+            (46_340, -46_340),
+        ),
+        (turned(0, 0), (65_536, 0)),
+    ];
+    for (found, expected) in rows {
+        assert!(rt; found == expected);
+    }
+    assert!(rt; last_part("/a/.code 2 args") == 3 && last_part("a") == 0);
+}
