@@ -2,6 +2,8 @@
 -- The attribute `alt` is the picture's text. Calls tikzsvg, or what the environment variable TIKZSVG names.
 
 local program = os.getenv("TIKZSVG") or "tikzsvg"
+-- The formats that a browser shows: the picture stands in the page itself, and elsewhere goes to pandoc as a file.
+local pages = " html html4 html5 chunkedhtml revealjs slidy slideous dzslides s5 "
 local count = 0
 
 local function escaped(text)
@@ -16,7 +18,7 @@ function CodeBlock(block)
     error(("picture %d: %s\n%s\n"):format(count, svg, block.text), 0)
   end
   local place = ("tikz-%d.svg"):format(count)
-  if FORMAT:match("html") then
+  if pages:find(" " .. FORMAT .. " ", 1, true) then
     place = "data:image/svg+xml," .. escaped(svg)
   else
     pandoc.mediabag.insert(place, "image/svg+xml", svg)
