@@ -1,5 +1,5 @@
 -- Tokens as the pieces of an expression: a run of letters is one piece, every other token is one.
-use Rattle.std.specs.Prelude.{ℕ, ◌-◌, ◌==◌, if◌then◌else◌, List, [], ◌∷◌, map, codes}
+use Rattle.std.specs.Prelude.{ℕ, ◌-◌, ◌==◌, if◌then◌else◌, List, [], ◌∷◌, ◌++◌, map, codes}
 use Rattle.std.specs.Char.{is_ascii_digit}
 use Rattle.std.specs.Str.{bytes_eq}
 use Rattle.tk_num.specs.declared.unit.Unit.TheVariants as units
@@ -23,9 +23,9 @@ pub record Row : Type 0 where
   pub text : List ℕ
   pub mark : Mark
 
--- the units, `r`, `pi` and the names of functions
-abbrev pub rows : List Row
-rows =
+-- the units, `r` and `pi`
+abbrev pub measures : List Row
+measures =
     record { text = codes "pt"; mark = Measure units.Pt } ∷
     record { text = codes "pc"; mark = Measure units.Pc } ∷
     record { text = codes "in"; mark = Measure units.In } ∷
@@ -38,7 +38,11 @@ rows =
     record { text = codes "em"; mark = Measure units.Em } ∷
     record { text = codes "ex"; mark = Measure units.Ex } ∷
     record { text = codes "r"; mark = Radian } ∷
-    record { text = codes "pi"; mark = Pi } ∷
+    record { text = codes "pi"; mark = Pi } ∷ []
+
+-- the names of functions
+abbrev pub functions : List Row
+functions =
     record { text = codes "sin"; mark = Single Sin } ∷
     record { text = codes "cos"; mark = Single Cos } ∷
     record { text = codes "tan"; mark = Single Tan } ∷
@@ -54,6 +58,10 @@ rows =
     record { text = codes "veclen"; mark = Double Veclen } ∷
     record { text = codes "min"; mark = Several Min } ∷
     record { text = codes "max"; mark = Several Max } ∷ []
+
+-- both tables
+abbrev pub rows : List Row
+rows = measures ++ functions
 
 -- what a text is by a table, or just a word
 abbrev pub mark_in : List Row → List ℕ → Mark

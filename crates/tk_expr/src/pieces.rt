@@ -155,6 +155,15 @@ fn word_mark(word: &str) -> Mark
         "ex" => Mark::Measure(Unit::Ex),
         "r" => Mark::Radian,
         "pi" => Mark::Pi,
+        _ => function_mark(word),
+    }
+}
+
+/// What a run of letters is that is no unit, `r` or `pi`.
+fn function_mark(word: &str) -> Mark
+    ensures { result ≡ spec.mark_in spec.functions word.now }
+{
+    match word {
         "sin" => Mark::Single(One::Sin),
         "cos" => Mark::Single(One::Cos),
         "tan" => Mark::Single(One::Tan),
