@@ -293,14 +293,30 @@ impl State {
             let key = *key;
             return Ok(Some(self.set_native(at, name_in(path), key, value)?));
         }
-        let Some(run) = &entry.run else {
-            let entry = entry.copy()?;
-            return self.store_value(at, path, entry, value);
-        };
-        let run = run.copy()?;
-        let need = entry.need.copy()?;
-        let taken = value_by(at, &need, value)?;
-        Ok(Some(self.run_key(at, path, name_in(path), &run, taken)?))
+        let entry = entry.copy()?;
+        match &entry.run {
+            Some(run) => Ok(Some(self.run_entry(at, path, &entry, run, value)?)),
+            None => self.store_value(at, path, entry, value),
+        }
+    }
+
+    /// A run takes a value, as the need of an entry says.
+    fn run_entry(
+        &mut self,
+        at: u32,
+        path: &str,
+        entry: &Entry,
+        run: &Run,
+        value: Option<&[Tok]>,
+    ) -> Result<Deed, Refusal>
+        ensures gives { Gives (λ deed. used_of (Some deed) self.new) result
+            (keys.use_by (given_of evaluated self.old) at path.now entry.now (Some run.now) entry.now.value
+            (option_copied value.entry) (situation_of self.old)) }
+        ensures kept { OnOk result (Keeps self.old self.new) }
+        ensures used { OnOk result (self.old.units ≤ self.new.units) }
+    {
+        let taken = value_by(at, &entry.need, value)?;
+        self.run_key(at, path, name_in(path), run, taken)
     }
 }
 
