@@ -1,7 +1,7 @@
 //! What keys do with values.
 
 ghost use Rattle.std.specs.Prelude.{◌≡◌, ◌+◌, ◌-◌, ◌≤◌, ◌<◌, ◌++◌, ◌∷◌, length, string_bytes, IfOk, IfSome, OnOk};
-ghost use Rattle.std.specs.Prelude.{IfNone, Ok, None, option_map, option_copied, unwrap_or, []};
+ghost use Rattle.std.specs.Prelude.{IfNone, Ok, Some, None, option_map, option_copied, unwrap_or, []};
 ghost use Rattle.tk_token.specs.Refusals.{Gives};
 ghost use Rattle.tk_token.specs.Texts as texts;
 ghost use Rattle.tk_expand.specs.Expand.{Stream, full, stream};
@@ -250,12 +250,12 @@ impl State {
         &mut self,
         at: u32,
         path: &str,
-        entry: Entry,
+        entry: &Entry,
         value: Option<&[Tok]>,
     ) -> Result<Option<Deed>, Refusal>
         ensures gives { Gives (λ used. used_of used self.new) result
-            (keys.use_by (given_of evaluated self.old) at path.now entry None entry.value (option_copied value.entry)
-            (situation_of self.old)) }
+            (keys.use_by (given_of evaluated self.old) at path.now entry.now None entry.now.value
+            (option_copied value.entry) (situation_of self.old)) }
         ensures none { IfOk result (λ used. IfNone used (self.new ≡ self.old)) }
         ensures kept { OnOk result (Keeps self.old self.new) }
         ensures used { OnOk result (self.old.units ≤ self.new.units) }
@@ -266,9 +266,20 @@ impl State {
         let Some(taken) = value_by(at, &entry.need, value)? else {
             return Err(Refusal::new(Code::ValueRequired, at));
         };
-        let value = Some(Body::new(self.alloc, taken)?);
-        self.set_entry(path, Entry { value, ..entry })?;
+        self.keep_value(path, entry, taken)?;
         Ok(Some(done()))
+    }
+
+    /// An entry has another stored value from there on.
+    fn keep_value(&mut self, path: &str, entry: &Entry, value: &[Tok]) -> Result<(), AllocError>
+        ensures set { OnOk result (situation_of self.new
+            ≡ environment.with_key (situation_of self.old) path.now (record entry.now { value = Some value.now })) }
+        ensures kept { OnOk result (Keeps self.old self.new) }
+        ensures used { OnOk result (self.old.units ≤ self.new.units) }
+    {
+        let value = Some(Body::new(self.alloc, value)?);
+        let entry = entry.copy()?;
+        self.set_entry(path, Entry { value, ..entry })
     }
 
     /// The key at a path takes a value, if it has a run or a stored value: its run does, or else its stored value
@@ -293,14 +304,30 @@ impl State {
             let key = *key;
             return Ok(Some(self.set_native(at, name_in(path), key, value)?));
         }
-        let Some(run) = &entry.run else {
-            let entry = entry.copy()?;
-            return self.store_value(at, path, entry, value);
-        };
-        let run = run.copy()?;
-        let need = entry.need.copy()?;
-        let taken = value_by(at, &need, value)?;
-        Ok(Some(self.run_key(at, path, name_in(path), &run, taken)?))
+        let entry = entry.copy()?;
+        match &entry.run {
+            Some(run) => Ok(Some(self.run_entry(at, path, &entry, run, value)?)),
+            None => self.store_value(at, path, &entry, value),
+        }
+    }
+
+    /// A run takes a value, as the need of an entry says.
+    fn run_entry(
+        &mut self,
+        at: u32,
+        path: &str,
+        entry: &Entry,
+        run: &Run,
+        value: Option<&[Tok]>,
+    ) -> Result<Deed, Refusal>
+        ensures gives { Gives (λ deed. used_of (Some deed) self.new) result
+            (keys.use_by (given_of evaluated self.old) at path.now entry.now (Some run.now) entry.now.value
+            (option_copied value.entry) (situation_of self.old)) }
+        ensures kept { OnOk result (Keeps self.old self.new) }
+        ensures used { OnOk result (self.old.units ≤ self.new.units) }
+    {
+        let taken = value_by(at, &entry.need, value)?;
+        self.run_key(at, path, name_in(path), run, taken)
     }
 }
 
