@@ -36,11 +36,11 @@ fn has_ends(pieces: &[Seg], ends: &[(i64, i64)]) -> bool {
 
 /// Whether outlines of small numbers have their pieces.
 fn outlines_are_drawn(alloc: Global) -> Result<bool, Fail> {
-    let (p, q) = (point(1, 2)?, point(5, 9)?);
     let (ten, turn) = (Scaled::within(10), Scaled::within(90 * 65_536));
-    let round = circle(alloc, identity(), p, ten, ten)?;
-    let quarter = arc(alloc, identity(), p, Scaled::within(0), turn, ten, ten)?;
-    let box_of = rectangle(alloc, identity(), p, q)?;
+    let round = circle(alloc, identity(), point(1, 2)?, ten, ten)?;
+    let start = Scaled::within(0);
+    let quarter = arc(alloc, identity(), point(1, 2)?, start, turn, ten, ten)?;
+    let box_of = rectangle(alloc, identity(), point(1, 2)?, point(5, 9)?)?;
     Ok(
         matches!(round, Ok(segs) if has_ends(segs.as_slice(), &[(11, 2), (1, 12), (-9, 2), (1, -8), (11, 2)]))
             // The centre of the arc is at (-9,2).
