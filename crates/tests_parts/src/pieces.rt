@@ -4,10 +4,10 @@ ghost use Rattle.std.specs.Prelude.{◌≤◌, ◌^◌, unsigned_abs};
 
 use std::alloc::Global;
 use std::test::Fail;
-use tk_affine::{Matrix, along, identity};
+use tk_affine::{AffFault, Matrix, along, identity};
 use tk_expand::Units;
 use tk_geom::{arc, circle, grid, rectangle};
-use tk_item::{Point, Seg};
+use tk_item::{Point, Seg, Segs};
 use tk_keytext::last_part;
 use tk_num::Scaled;
 
@@ -34,19 +34,28 @@ fn has_ends(pieces: &[Seg], ends: &[(i64, i64)]) -> bool {
     rest.is_empty()
 }
 
-/// Whether outlines of small numbers have their pieces.
+/// Whether pieces are there and lead to those ends.
+fn leads_to(found: Result<Segs, AffFault>, ends: &[(i64, i64)]) -> bool {
+    match found {
+        Ok(segs) => has_ends(segs.as_slice(), ends),
+        Err(_) => false,
+    }
+}
+
+/// Whether a circle, a quarter of one and a box have their pieces; the centre of the quarter is at (-9,2).
 fn outlines_are_drawn(alloc: Global) -> Result<bool, Fail> {
-    let (ten, turn) = (Scaled::within(10), Scaled::within(90 * 65_536));
+    let (ten, start, turn) = (
+        Scaled::within(10),
+        Scaled::within(0),
+        Scaled::within(90 * 65_536),
+    );
     let round = circle(alloc, identity(), point(1, 2)?, ten, ten)?;
-    let start = Scaled::within(0);
+    let is_round = leads_to(round, &[(11, 2), (1, 12), (-9, 2), (1, -8), (11, 2)]);
     let quarter = arc(alloc, identity(), point(1, 2)?, start, turn, ten, ten)?;
-    let box_of = rectangle(alloc, identity(), point(1, 2)?, point(5, 9)?)?;
-    Ok(
-        matches!(round, Ok(segs) if has_ends(segs.as_slice(), &[(11, 2), (1, 12), (-9, 2), (1, -8), (11, 2)]))
-            // The centre of the arc is at (-9,2).
-            && matches!(quarter, Ok(segs) if has_ends(segs.as_slice(), &[(-9, 12)]))
-            && matches!(box_of, Ok(segs) if has_ends(segs.as_slice(), &[(1, 2), (5, 2), (5, 9), (1, 9)])),
-    )
+    let is_quarter = leads_to(quarter, &[(-9, 12)]);
+    let sides = rectangle(alloc, identity(), point(1, 2)?, point(5, 9)?)?;
+    let is_box = leads_to(sides, &[(1, 2), (5, 2), (5, 9), (1, 9)]);
+    Ok(is_round && is_quarter && is_box)
 }
 
 /// Whether a grid has its lines: one at x = 4, then one at y = 4 and one at y = 8.
@@ -55,7 +64,10 @@ fn a_grid_is_drawn(alloc: Global) -> Result<bool, Fail> {
     let (p, q, step) = (point(1, 2)?, point(5, 9)?, Scaled::within(4));
     let found = grid(alloc, identity(), p, q, step, step, &mut units, 7);
     let ends = [(4, 2), (4, 9), (1, 4), (5, 4), (1, 8), (5, 8)];
-    Ok(units.used == 3 && matches!(found, Ok(segs) if has_ends(segs.as_slice(), &ends)))
+    match found {
+        Ok(segs) => Ok(units.used == 3 && has_ends(segs.as_slice(), &ends)),
+        Err(_) => Ok(false),
+    }
 }
 
 #[test]
