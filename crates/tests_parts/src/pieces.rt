@@ -77,6 +77,18 @@ fn pieces_are_drawn_alone(rt: HostRuntime) -> Result<(), Fail> {
     Ok(())
 }
 
+/// The two numbers of a direction, and those of the first column of the turn into it.
+const TURNS: [(i64, i64, (i64, i64)); 6] = [
+    // The length of (3,4) is 5: 39321.6 and 52428.8. That of (1,1) is cut to 1.
+    (3, 4, (39_321, 52_428)),
+    (-3, 4, (-39_321, 52_428)),
+    (0, -5, (0, -65_536)),
+    (1, 1, (65_536, 65_536)),
+    // 65536 over the root of 2 is 46340.95.
+    (1_099_511_627_776, -1_099_511_627_776, (46_340, -46_340)),
+    (0, 0, (65_536, 0)),
+];
+
 /// The first column of a turn into a direction.
 fn turned(dx: i64, dy: i64) -> (i64, i64)
     requires dx { unsigned_abs dx ≤ 2 ^ 40 }
@@ -88,21 +100,9 @@ fn turned(dx: i64, dy: i64) -> (i64, i64)
 
 #[test]
 fn directions_and_parts(rt: HostRuntime) {
-    let rows = [
-        // The length of (3,4) is 5: 39321.6 and 52428.8. That of (1,1) is cut to 1.
-        (turned(3, 4), (39_321, 52_428)),
-        (turned(-3, 4), (-39_321, 52_428)),
-        (turned(0, -5), (0, -65_536)),
-        (turned(1, 1), (65_536, 65_536)),
-        // 65536 over the root of 2 is 46340.95.
-        (
-            turned(1_099_511_627_776, -1_099_511_627_776),
-            (46_340, -46_340),
-        ),
-        (turned(0, 0), (65_536, 0)),
-    ];
-    for (found, expected) in rows {
-        assert!(rt; found == expected);
+    for (dx, dy, column) in &TURNS {
+        assert!(rt; dx.unsigned_abs() <= 1 << 40 && dy.unsigned_abs() <= 1 << 40);
+        assert!(rt; turned(*dx, *dy) == *column, "{dx} and {dy}");
     }
     assert!(rt; last_part("/a/.code 2 args") == 3 && last_part("a") == 0);
 }

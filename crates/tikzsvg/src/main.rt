@@ -7,8 +7,6 @@
 mod document;
 mod lines;
 mod program;
-#[cfg(test)]
-mod rows;
 mod words;
 
 use program::{run, without_words};
