@@ -1,6 +1,7 @@
 //! What no clause says: that the calls succeed with ample memory, and some values worked out by hand.
 
 use std::alloc::{AllocError, Global};
+use std::mem;
 use std::test::Fail;
 use tk_store::{Body, Entry, Macro, Need, Run, Store};
 use tk_token::Refusal;
@@ -164,16 +165,23 @@ fn made(alloc: Global, store: &mut Store, calls: &[Call]) -> Result<usize, Refus
     Ok(calls.len())
 }
 
+/// How many calls by words are made, and then by keys, up to the first of each that fails.
+fn calls_made(alloc: Global, store: &mut Store) -> Result<(usize, usize), Refusal> {
+    let words = made(alloc, store, &CALLS)?;
+    let keys = made(alloc, store, &KEY_CALLS)?;
+    Ok((words, keys))
+}
+
 #[test]
 fn settings_end_with_their_levels(rt: HostRuntime) -> Result<(), Fail> {
     let mut store = Store::new(rt.alloc())?;
-    let count = made(rt.alloc(), &mut store, &CALLS)?;
-    assert!(rt; count == CALLS.len() && store.level() == 0, "call {count}");
-    let count = made(rt.alloc(), &mut store, &KEY_CALLS)?;
-    assert!(rt;
-        count == KEY_CALLS.len() && store.level() == 0,
-        "call {count} of keys"
-    );
+    let counts = calls_made(rt.alloc(), &mut store);
+    let level = store.level();
+    mem::drop(store);
+    let (words, keys) = counts?;
+    assert!(rt; words == CALLS.len(), "call {words}");
+    assert!(rt; keys == KEY_CALLS.len(), "call {keys} of keys");
+    assert!(rt; level == 0);
     Ok(())
 }
 
@@ -214,11 +222,19 @@ fn pass_levels(alloc: Global, store: &mut Store) -> Result<(), Refusal> {
     Ok(())
 }
 
+/// How many of 20,000 words and keys are as they were set before 200,000 levels.
+fn kept_over_levels(alloc: Global, store: &mut Store) -> Result<u32, Refusal> {
+    widen(alloc, store)?;
+    pass_levels(alloc, store)?;
+    Ok(kept(alloc, store)?)
+}
+
 #[test]
 fn a_level_costs_what_is_set_there(rt: HostRuntime) -> Result<(), Fail> {
     let mut store = Store::new(rt.alloc())?;
-    widen(rt.alloc(), &mut store)?;
-    pass_levels(rt.alloc(), &mut store)?;
-    assert!(rt; kept(rt.alloc(), &store)? == 20_000 && store.level() == 0);
+    let count = kept_over_levels(rt.alloc(), &mut store);
+    let level = store.level();
+    mem::drop(store);
+    assert!(rt; count? == 20_000 && level == 0);
     Ok(())
 }

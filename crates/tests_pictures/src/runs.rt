@@ -22,8 +22,8 @@ fn before(alloc: Global, text: &str, budget: u64) -> Result<(State, Input), Fail
     let Ok(Lexed { toks, names }) = lex(alloc, bytes) else {
         return Err("no tokens".into());
     };
-    let state = State::new(alloc, names, font, budget)?;
     let input = Input::new(alloc, Body::from_vec(toks)?, 777)?;
+    let state = State::new(alloc, names, font, budget)?;
     Ok((state, input))
 }
 
@@ -80,15 +80,29 @@ fn met(found: Result<bool, Refusal>) -> bool {
     matches!(found, Ok(true))
 }
 
+/// How many of the calls come to what they should, one after another.
+fn calls_met(alloc: Global, state: &mut State, input: &mut Input) -> u32 {
+    if !met(sets_key(state, input)) {
+        return 0;
+    }
+    if !met(sets_below(alloc, state, input)) {
+        return 1;
+    }
+    if !met(begins(state, input, '7')) {
+        return 2;
+    }
+    if !met(sets_macro(alloc, state)) {
+        return 3;
+    }
+    if met(opens(state)) { 5 } else { 4 }
+}
+
 #[test]
 fn key_lists_have_their_paths(rt: HostRuntime) -> Result<(), Fail> {
     let text =
         r"{/a/.store in=\m,/b/.cd,c/.code={\pgfkeysalso{/d/.cd}},c,/a=5}{{\pgfkeysalso{x/.cd}}\pgfkeysalso{y/.code={\def\m{#1}},y=7}}\m";
     let (mut state, mut input) = before(rt.alloc(), text, 100)?;
-    assert!(rt; met(sets_key(&mut state, &mut input)));
-    assert!(rt; met(sets_below(rt.alloc(), &mut state, &mut input)));
-    assert!(rt; met(begins(&mut state, &mut input, '7')));
-    assert!(rt; met(sets_macro(rt.alloc(), &mut state)));
-    assert!(rt; met(opens(&mut state)));
+    let count = calls_met(rt.alloc(), &mut state, &mut input);
+    assert!(rt; count == 5, "call {count}");
     Ok(())
 }
