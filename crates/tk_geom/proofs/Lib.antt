@@ -7,4 +7,5 @@ pub mod Round
 pub mod Tangents
 pub mod Multiples
 pub mod LinesDrawn
+pub mod GridPieces
 pub mod Forms
