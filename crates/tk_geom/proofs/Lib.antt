@@ -9,3 +9,4 @@ pub mod Multiples
 pub mod LinesDrawn
 pub mod GridPieces
 pub mod Forms
+pub mod Waypoints
