@@ -1,11 +1,14 @@
 -- The whole numbers whose products with a step lie between two bounds.
 use Rattle.std.proofs.Common.{◌≡◌, ◌↔◌, ℕ, zero, suc, ◌*◌, ◌<◌, length, get_or, Contains, ℤ, pos, negsuc, neg_ℤ, ◌+ℤ◌, ◌-ℤ◌, ◌*ℤ◌, ◌≤ℤ◌, ◌<ℤ◌}
-use Rattle.std.proofs.Common.{unsigned_abs, refl, sym, ap, subst, ◌∙◌, arith}
-use Rattle.std.specs.Int.{int_div_euclid}
-use Rattle.std.proofs.lemmas.Int.{ints}
+use Rattle.std.proofs.Common.{unsigned_abs, ◌≤◌, refl, sym, ap, subst, ◌∙◌, arith, SFits, to_z}
+use Rattle.std.specs.Int.{w64, int_div_euclid}
+use Rattle.std.proofs.lemmas.Int.{ints, to_z_pos, fits_signed_from_abs}
 use Rattle.std.proofs.Math.IntN.{neg_ℤ-neg_ℤ}
 use Rattle.std.proofs.Math.Nat.{le-div_iff_mul-le, div-lt_iff_lt-mul}
+use Rattle.tk_affine.proofs.Wide.{sum_bound, wrapped_product}
 use Rattle.tk_geom.specs.GridLines.{rising, ceiling_of, floor_of, count_between, multiples_between}
+use Rattle.tk_geom.proofs.Forms.{fits_64_bits, product_fits}
+use Rattle.tk_geom.proofs.Wrapped.{in64}
 
 -- ---- the quotients, for a step of n + 1
 
@@ -106,3 +109,28 @@ unfolding multiples_between
 multiples_rise low high s i j d lt within =
     let n : ℕ = count_between (ceiling_of low s) (floor_of high s) in
     rises_from (ceiling_of low s) n i j d lt (subst (λ m. j < m) (length-rising (ceiling_of low s) n) within)
+
+-- ---- the multiple i steps after the first, as it is computed of the step r
+
+module _ (first : ℤ) (i : ℕ) (lf : unsigned_abs first ≤ 1084479242) (li : i ≤ 2168958485) where
+  pub index_fits : SFits w64 (pos i)
+  index_fits = fits_signed_from_abs w64 (pos i) (omega arith)
+
+  which_is : in64 first +ℤ to_z w64 i ≡ first +ℤ pos i
+  which_is = ap (λ z. z +ℤ to_z w64 i) (fits_64_bits first (omega arith)) ∙ ap (λ z. first +ℤ z) (to_z_pos w64 i (omega arith))
+
+  which_within : unsigned_abs (first +ℤ pos i) ≤ 3253437727
+  which_within = omega (arith, sum_bound first (pos i))
+
+  pub which_fits : SFits w64 (in64 first +ℤ to_z w64 i)
+  which_fits = rw which_is (fits_signed_from_abs w64 (first +ℤ pos i) (omega (arith, which_within)))
+
+  pub multiple_fits : (r : ℤ) → unsigned_abs r ≤ 1073741823 → SFits w64 (in64 (in64 first +ℤ to_z w64 i) *ℤ in64 r)
+  multiple_fits r lr =
+      rw which_is (product_fits (first +ℤ pos i) r 3253437727 1073741823 which_within lr (omega arith) (omega arith) (omega arith))
+
+  pub multiple_is : (r s : ℤ) → r ≡ s → unsigned_abs r ≤ 1073741823
+      → in64 (in64 (in64 first +ℤ to_z w64 i) *ℤ in64 r) ≡ (first +ℤ pos i) *ℤ s
+  multiple_is r s e lr =
+      rw which_is (wrapped_product (first +ℤ pos i) r 3253437727 1073741823 which_within lr (omega arith) (omega arith) (omega arith))
+      ∙ ap (λ z. (first +ℤ pos i) *ℤ z) e
