@@ -1,8 +1,7 @@
 -- Waypoints, and what is left of the way to them.
-use Rattle.std.proofs.Common.{◌≡◌, ℤ, pos, ◌-ℤ◌, unsigned_abs, ◌^◌, ◌≤◌, refl, sym, subst, arith, SFits}
-use Rattle.std.specs.Int.{w64, w128}
-use Rattle.std.proofs.lemmas.Int.{to_z-of_z, ints, fits_signed_from_abs}
-use Rattle.tk_affine.proofs.Wide.{fits_scaled}
+use Rattle.std.proofs.Common.{◌≡◌, ℤ, pos, ◌-ℤ◌, unsigned_abs, ◌^◌, ◌≤◌, refl, arith, SFits}
+use Rattle.std.specs.Int.{w128}
+use Rattle.std.proofs.lemmas.Int.{to_z-of_z, ints}
 use Rattle.tk_geom.specs.Segments.{waypoint_at}
 use Rattle.tk_geom.proofs.Forms.{fits_64_bits}
 use Rattle.tk_geom.proofs.Wrapped.{in64, in128}
