@@ -46,21 +46,43 @@ product_of_three_fits p s z es lp lz = rw es (product_fits p z 347892350976 5898
 pub times_fits : (n p : ℤ) → unsigned_abs n ≤ 3 → unsigned_abs p ≤ 205195258022068224 → SFits w64 (in64 n *ℤ in64 p)
 times_fits n p ln lp = product_fits n p 3 205195258022068224 ln lp (omega arith) (omega arith) (omega arith)
 
-pub advanced_is : (x from way t : ℤ) → x ≡ from → unsigned_abs x ≤ 1073741823 → unsigned_abs way ≤ 2147483646 → unsigned_abs t ≤ 1114112
-    → in64 (in64 x +ℤ in64 (int_div (in64 (in64 way *ℤ in64 t)) (pos 65536))) ≡ from +ℤ int_div (way *ℤ t) (pos 65536)
-advanced_is x from way t e lx lw lt =
-    let product = wrapped_product way t 2147483646 1114112 lw lt (omega arith) (omega arith) (omega arith) in
-    let small = product_bound way t 2147483646 1114112 lw lt in
-    let quotient = quotient_bound (way *ℤ t) (pos 65536) in
-    let sum : in64 (in64 x +ℤ in64 (int_div (way *ℤ t) (pos 65536))) ≡ x +ℤ int_div (way *ℤ t) (pos 65536) =
-    summed x (int_div (way *ℤ t) (pos 65536)) lx (omega (arith, small, quotient)) in
-    ap (λ z. in64 (in64 x +ℤ in64 (int_div z (pos 65536)))) product ∙ sum ∙ ap (λ z. z +ℤ int_div (way *ℤ t) (pos 65536)) e
-  where
-    summed : (a b : ℤ) → unsigned_abs a ≤ 1073741823 → unsigned_abs b ≤ 2392537302040543 → in64 (in64 a +ℤ in64 b) ≡ a +ℤ b
-    summed a b la lb = omega (arith, ints)
-
 pub few_times_fits : (n p : ℤ) → unsigned_abs n ≤ 2 → unsigned_abs p ≤ 347892350976 → SFits w64 (in64 n *ℤ in64 p)
 few_times_fits n p ln lp = times_fits n p (omega arith) (omega arith)
+
+-- so far on the way from a coordinate, as it is computed of the coordinate x
+module _ (x from way t : ℤ) (e : x ≡ from)
+    (lx : unsigned_abs x ≤ 1073741823) (lw : unsigned_abs way ≤ 2147483646) (lt : unsigned_abs t ≤ 1114112) where
+  way_is : in64 (in64 way *ℤ in64 t) ≡ way *ℤ t
+  way_is = wrapped_product way t 2147483646 1114112 lw lt (omega arith) (omega arith) (omega arith)
+
+  part_within : unsigned_abs (int_div (way *ℤ t) (pos 65536)) ≤ 2392537299812352
+  part_within =
+      let small = product_bound way t 2147483646 1114112 lw lt in
+      omega (arith, small, quotient_bound (way *ℤ t) (pos 65536))
+
+  part_is : in64 (int_div (in64 (in64 way *ℤ in64 t)) (pos 65536)) ≡ int_div (way *ℤ t) (pos 65536)
+  part_is = rw way_is (fits_64_bits (int_div (way *ℤ t) (pos 65536)) (omega (arith, part_within)))
+
+  sum_within : unsigned_abs (x +ℤ int_div (way *ℤ t) (pos 65536)) ≤ 2392538373554175
+  sum_within = omega (arith, sum_bound x (int_div (way *ℤ t) (pos 65536)), part_within)
+
+  pub way_fits : SFits w64 (in64 way *ℤ in64 t)
+  way_fits = product_fits way t 2147483646 1114112 lw lt (omega arith) (omega arith) (omega arith)
+
+  pub part_fits : (0 < 65536) × SFits w64 (int_div (in64 (in64 way *ℤ in64 t)) (pos 65536))
+  part_fits =
+      let positive : 0 < 65536 = omega arith in
+      rw way_is (positive, fits_signed_from_abs w64 (int_div (way *ℤ t) (pos 65536)) (omega (arith, part_within)))
+
+  pub advanced_fits : SFits w64 (in64 x +ℤ in64 (int_div (in64 (in64 way *ℤ in64 t)) (pos 65536)))
+  advanced_fits =
+      rw (part_is, fits_64_bits x (omega arith))
+      (fits_signed_from_abs w64 (x +ℤ int_div (way *ℤ t) (pos 65536)) (omega (arith, sum_within)))
+
+  pub advanced_is : in64 (in64 x +ℤ in64 (int_div (in64 (in64 way *ℤ in64 t)) (pos 65536))) ≡ from +ℤ int_div (way *ℤ t) (pos 65536)
+  advanced_is =
+      rw (part_is, fits_64_bits x (omega arith)) (fits_64_bits (x +ℤ int_div (way *ℤ t) (pos 65536)) (omega (arith, sum_within)))
+      ∙ ap (λ z. z +ℤ int_div (way *ℤ t) (pos 65536)) e
 
 -- ---- in 128 bits
 

@@ -60,16 +60,6 @@ struct Parallels {
     ends: Span,
 }
 
-/// The least whole number whose product with the step is at least z.
-fn ceiling_of(z: i64, step: i64) -> i64
-    requires step { pos 0 <ℤ step }
-    requires z { unsigned_abs z ≤ 1084479241 }
-    ensures value { result ≡ spec.ceiling_of z step }
-    ensures within { unsigned_abs result ≤ 1084479242 }
-{
-    -(-z).div_euclid(step)
-}
-
 /// The greatest whole number whose product with the step is at most z.
 fn floor_of(z: i64, step: i64) -> i64
     requires step { pos 0 <ℤ step }
@@ -78,6 +68,16 @@ fn floor_of(z: i64, step: i64) -> i64
     ensures within { unsigned_abs result ≤ 1084479242 }
 {
     z.div_euclid(step)
+}
+
+/// The least whole number whose product with the step is at least z.
+fn ceiling_of(z: i64, step: i64) -> i64
+    requires step { pos 0 <ℤ step }
+    requires z { unsigned_abs z ≤ 1084479241 }
+    ensures value { result ≡ spec.ceiling_of z step }
+    ensures within { unsigned_abs result ≤ 1084479242 }
+{
+    -floor_of(-z, step)
 }
 
 /// How many whole numbers there are from `a` to `b`.
