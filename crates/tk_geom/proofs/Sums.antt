@@ -32,3 +32,10 @@ difference_is x y a b e h la ly =
 pub difference_within : (x y a : ℤ) → x ≡ a → unsigned_abs a ≤ 8589934592 → unsigned_abs y ≤ 1073741823
     → unsigned_abs (in64 (in64 x -ℤ in64 y)) ≤ unsigned_abs a + 1073741823
 difference_within x y a e la ly = rw (e, difference_fits a y la ly) (omega (arith, difference_bound a y, ly))
+
+-- what is near enough that a vector may be added
+pub near_enough : (z : ℤ) → unsigned_abs z ≤ 2147483646 → unsigned_abs z ≤ 8589934592
+near_enough z le = omega arith
+
+pub near_enough_moved : (r z : ℤ) → unsigned_abs r ≤ unsigned_abs z + 1073741823 → unsigned_abs z ≤ 2147483646 → unsigned_abs r ≤ 8589934592
+near_enough_moved r z moved le = omega arith

@@ -2,7 +2,7 @@
 use Rattle.std.proofs.Common.{◌≡◌, ℕ, zero, suc, ℤ, pos, negsuc, neg_ℤ, ◌+ℤ◌, ◌-ℤ◌, ◌*ℤ◌, int_div, unsigned_abs, ◌*◌, ◌/◌, ◌<◌, ◌≤◌, refl, ap}
 use Rattle.std.proofs.Common.{◌∙◌, arith, SFits, of_z}
 use Rattle.std.specs.Int.{w64}
-use Rattle.std.proofs.lemmas.Int.{ints, fits_signed_from_abs}
+use Rattle.std.proofs.lemmas.Int.{ints, to_z-of_z, fits_signed_from_abs}
 use Rattle.std.proofs.Math.Nat.{mul-le-mul_left, mul-div_left, div-le_of_le-mul, div-le_self}
 use Rattle.tk_num.specs.Number.{IsScaled}
 use Rattle.tk_num.specs.Angle.{degrees}
@@ -141,6 +141,37 @@ module _ (x y q : ℤ) (i n : ℕ) (lx : IsScaled x) (ly : IsScaled y) (le : i �
       ∙ ap (λ z. z +ℤ int_div ((y -ℤ z) *ℤ pos i) (pos n)) e
       ∙ ap (λ z. a +ℤ int_div ((z -ℤ a) *ℤ pos i) (pos n)) h
 
--- four thirds of a small number, as they are computed
-pub four_thirds : (x z : ℤ) → x ≡ z → unsigned_abs z ≤ 32768 → in64 (int_div (in64 (pos 4 *ℤ in64 x)) (pos 3)) ≡ int_div (pos 4 *ℤ z) (pos 3)
-four_thirds x z e small = rw e (let k : in64 (int_div (in64 (pos 4 *ℤ in64 z)) (pos 3)) ≡ int_div (pos 4 *ℤ z) (pos 3) = omega (arith, ints) in k)
+-- four thirds of a small number z, as they are computed of x
+module _ (x z : ℤ) (e : x ≡ z) (small : unsigned_abs z ≤ 32768) where
+  four_times : pos 4 *ℤ in64 x ≡ pos 4 *ℤ z
+  four_times = rw e (ap (λ y. pos 4 *ℤ y) (fits_64_bits z (omega arith)))
+
+  four_times_within : unsigned_abs (pos 4 *ℤ z) ≤ 131072
+  four_times_within = product_bound (pos 4) z 4 32768 (omega arith) small
+
+  thirds_within : unsigned_abs (int_div (pos 4 *ℤ z) (pos 3)) ≤ 65536
+  thirds_within = omega (arith, abs_quotient (pos 4 *ℤ z) 3, four_times_within)
+
+  pub four_times_fit : SFits w64 (pos 4 *ℤ in64 x)
+  four_times_fit = rw four_times (fits_signed_from_abs w64 (pos 4 *ℤ z) (omega (arith, four_times_within)))
+
+  wrapped_four_times : in64 (pos 4 *ℤ in64 x) ≡ pos 4 *ℤ z
+  wrapped_four_times = rw four_times (fits_64_bits (pos 4 *ℤ z) (omega (arith, four_times_within)))
+
+  pub four_thirds_fit : (0 < 3) × SFits w64 (int_div (in64 (pos 4 *ℤ in64 x)) (pos 3))
+  four_thirds_fit =
+      let positive : 0 < 3 = omega arith in
+      rw wrapped_four_times (positive, fits_signed_from_abs w64 (int_div (pos 4 *ℤ z) (pos 3)) (omega (arith, thirds_within)))
+
+  pub four_thirds_are : in64 (int_div (in64 (pos 4 *ℤ in64 x)) (pos 3)) ≡ int_div (pos 4 *ℤ z) (pos 3)
+  four_thirds_are = rw wrapped_four_times (fits_64_bits (int_div (pos 4 *ℤ z) (pos 3)) (omega (arith, thirds_within)))
+
+  pub four_thirds_are_scaled : IsScaled (in64 (int_div (in64 (pos 4 *ℤ in64 x)) (pos 3)))
+  four_thirds_are_scaled = rw four_thirds_are (omega (arith, thirds_within))
+
+  pub four_thirds_within : (r : ℤ) → r ≡ in64 (int_div (in64 (pos 4 *ℤ in64 x)) (pos 3)) → unsigned_abs r ≤ 65536
+  four_thirds_within r is = rw (is, four_thirds_are) thirds_within
+
+-- a turn that is passed on
+pub turn_passed_on : (turn b a : ℤ) (n : ℕ) → SFits w64 turn → turn ≡ b -ℤ a → unsigned_abs (b -ℤ a) ≤ n → unsigned_abs (in64 turn) ≤ n
+turn_passed_on turn b a n fits is le = rw (to_z-of_z w64 turn fits, is) le
