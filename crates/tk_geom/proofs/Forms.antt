@@ -1,8 +1,9 @@
 -- Products and sums of the forms of curves, which do not wrap.
-use Rattle.std.proofs.Common.{◌≡◌, ℤ, pos, ◌+ℤ◌, ◌*ℤ◌, int_div, unsigned_abs, ◌*◌, ◌^◌, ◌≤◌, refl, ap, ◌∙◌, arith, SFits}
+use Rattle.std.proofs.Common.{◌≡◌, ℕ, ℤ, pos, ◌+ℤ◌, ◌-ℤ◌, ◌*ℤ◌, int_div, unsigned_abs, ◌*◌, ◌^◌, ◌<◌, ◌≤◌, refl, ap, ◌∙◌, arith, SFits}
 use Rattle.std.specs.Int.{w64, w128}
 use Rattle.std.proofs.lemmas.Int.{to_z-of_z, ints, fits_signed_from_abs}
 use Rattle.tk_affine.proofs.Wide.{product_bound, sum_bound, quotient_bound, wrapped_product}
+use Rattle.tk_geom.specs.Segments.{cubic, heading}
 use Rattle.tk_geom.proofs.Quotients.{abs_quotient}
 use Rattle.tk_geom.proofs.Wrapped.{in64, in128}
 
@@ -11,92 +12,147 @@ use Rattle.tk_geom.proofs.Wrapped.{in64, in128}
 pub fits_64_bits : (z : ℤ) → unsigned_abs z ≤ 615585774066204672 → in64 z ≡ z
 fits_64_bits z le = to_z-of_z w64 z (fits_signed_from_abs w64 z (omega arith))
 
-pub two_of : (x y : ℤ) → unsigned_abs x ≤ 589824 → unsigned_abs y ≤ 589824 → in64 (in64 x *ℤ in64 y) ≡ x *ℤ y
-two_of x y lx ly = wrapped_product x y 589824 589824 lx ly (omega arith) (omega arith) (omega arith)
+-- a product of numbers that fit, and that fits
+pub product_fits : (a b : ℤ) (m n : ℕ) → unsigned_abs a ≤ m → unsigned_abs b ≤ n → m < 2 ^ 63 → n < 2 ^ 63 → m * n < 2 ^ 63
+    → SFits w64 (in64 a *ℤ in64 b)
+product_fits a b m n la lb lm ln lmn =
+    rw (to_z-of_z w64 a (fits_signed_from_abs w64 a (omega arith)), to_z-of_z w64 b (fits_signed_from_abs w64 b (omega arith)))
+    (let small = product_bound a b m n la lb in fits_signed_from_abs w64 (a *ℤ b) (omega (arith, small)))
 
-pub two_within : (x y : ℤ) → unsigned_abs x ≤ 589824 → unsigned_abs y ≤ 589824 → unsigned_abs (x *ℤ y) ≤ 347892350976
-two_within x y lx ly = product_bound x y 589824 589824 lx ly
+-- a product of the numbers x and y, as they are read
+pub product_of_two_fits : (r s : ℤ) → unsigned_abs r ≤ 1073741823 → unsigned_abs s ≤ 1073741823 → SFits w64 (in64 r *ℤ in64 s)
+product_of_two_fits r s lr ls = product_fits r s 1073741823 1073741823 lr ls (omega arith) (omega arith) (omega arith)
 
--- a product of two, as a callee tells it
-pub told_two : (p x y : ℤ) → unsigned_abs x ≤ 589824 → unsigned_abs y ≤ 589824 → p ≡ in64 x *ℤ in64 y → p ≡ x *ℤ y
-told_two p x y lx ly e = e ∙ ap (λ z. z *ℤ in64 y) (fits_64_bits x (omega arith)) ∙ ap (λ z. x *ℤ z) (fits_64_bits y (omega arith))
+pub product_of_two_is : (r s x y : ℤ) → r ≡ x → s ≡ y → unsigned_abs x ≤ 589824 → unsigned_abs y ≤ 589824 → in64 (in64 r *ℤ in64 s) ≡ x *ℤ y
+product_of_two_is r s x y e h lx ly = rw (e, h) (wrapped_product x y 589824 589824 lx ly (omega arith) (omega arith) (omega arith))
 
-pub three_of : (p x y z : ℤ) → p ≡ x *ℤ y → unsigned_abs p ≤ 347892350976 → unsigned_abs z ≤ 589824 → in64 (in64 p *ℤ in64 z) ≡ x *ℤ y *ℤ z
-three_of p x y z e lp lz = wrapped_product p z 347892350976 589824 lp lz (omega arith) (omega arith) (omega arith) ∙ ap (λ q. q *ℤ z) e
+pub product_of_two_within : (r s x y : ℤ) → r ≡ x → s ≡ y → unsigned_abs x ≤ 589824 → unsigned_abs y ≤ 589824
+    → unsigned_abs (in64 (in64 r *ℤ in64 s)) ≤ 347892350976
+product_of_two_within r s x y e h lx ly = rw (product_of_two_is r s x y e h lx ly) (product_bound x y 589824 589824 lx ly)
 
-pub three_within : (p x y z : ℤ) → p ≡ x *ℤ y → unsigned_abs p ≤ 347892350976 → unsigned_abs z ≤ 589824
-    → unsigned_abs (x *ℤ y *ℤ z) ≤ 205195258022068224
-three_within p x y z e lp lz = rw (← e) (product_bound p z 347892350976 589824 lp lz)
+-- a product p of two and a number z
+pub product_of_three_is : (p s e z : ℤ) → p ≡ e → s ≡ z → unsigned_abs p ≤ 347892350976 → unsigned_abs z ≤ 589824 → in64 (in64 p *ℤ in64 s) ≡ e *ℤ z
+product_of_three_is p s e z ep es lp lz =
+    rw es (wrapped_product p z 347892350976 589824 lp lz (omega arith) (omega arith) (omega arith)) ∙ ap (λ q. q *ℤ z) ep
 
-pub told_three : (p x y z : ℤ) → unsigned_abs x ≤ 589824 → unsigned_abs y ≤ 589824 → unsigned_abs z ≤ 589824 → p ≡ in64 x *ℤ in64 y *ℤ in64 z
-    → p ≡ x *ℤ y *ℤ z
-told_three p x y z lx ly lz e = e ∙ ap (λ q. q *ℤ in64 z) (told_two _ x y lx ly refl) ∙ ap (λ q. x *ℤ y *ℤ q) (fits_64_bits z (omega arith))
+pub product_of_three_within : (p s z : ℤ) → s ≡ z → unsigned_abs p ≤ 347892350976 → unsigned_abs z ≤ 589824
+    → unsigned_abs (in64 (in64 p *ℤ in64 s)) ≤ 205195258022068224
+product_of_three_within p s z es lp lz = rw (product_of_three_is p s p z refl es lp lz) (product_bound p z 347892350976 589824 lp lz)
+
+pub product_of_three_fits : (p s z : ℤ) → s ≡ z → unsigned_abs p ≤ 347892350976 → unsigned_abs z ≤ 589824 → SFits w64 (in64 p *ℤ in64 s)
+product_of_three_fits p s z es lp lz = rw es (product_fits p z 347892350976 589824 lp lz (omega arith) (omega arith) (omega arith))
 
 -- a small number of times
-pub times_of : (n p : ℤ) → unsigned_abs n ≤ 3 → unsigned_abs p ≤ 205195258022068224 → in64 (n *ℤ in64 p) ≡ n *ℤ p
-times_of n p ln lp = ap (λ z. in64 (n *ℤ z)) (fits_64_bits p (omega arith)) ∙ fits_64_bits (n *ℤ p) (product_bound n p 3 205195258022068224 ln lp)
+pub times_fits : (n p : ℤ) → unsigned_abs n ≤ 3 → unsigned_abs p ≤ 205195258022068224 → SFits w64 (in64 n *ℤ in64 p)
+times_fits n p ln lp = product_fits n p 3 205195258022068224 ln lp (omega arith) (omega arith) (omega arith)
 
-pub advanced_is : (x from way t : ℤ) → x ≡ from → unsigned_abs x ≤ 1073741823 → unsigned_abs way ≤ 2147483646 → unsigned_abs t ≤ 1114112
-    → in64 (in64 x +ℤ in64 (int_div (in64 (in64 way *ℤ in64 t)) (pos 65536))) ≡ from +ℤ int_div (way *ℤ t) (pos 65536)
-advanced_is x from way t e lx lw lt =
-    let product = wrapped_product way t 2147483646 1114112 lw lt (omega arith) (omega arith) (omega arith) in
-    let small = product_bound way t 2147483646 1114112 lw lt in
-    let quotient = quotient_bound (way *ℤ t) (pos 65536) in
-    let sum : in64 (in64 x +ℤ in64 (int_div (way *ℤ t) (pos 65536))) ≡ x +ℤ int_div (way *ℤ t) (pos 65536) =
-    summed x (int_div (way *ℤ t) (pos 65536)) lx (omega (arith, small, quotient)) in
-    ap (λ z. in64 (in64 x +ℤ in64 (int_div z (pos 65536)))) product ∙ sum ∙ ap (λ z. z +ℤ int_div (way *ℤ t) (pos 65536)) e
-  where
-    summed : (a b : ℤ) → unsigned_abs a ≤ 1073741823 → unsigned_abs b ≤ 2392537302040543 → in64 (in64 a +ℤ in64 b) ≡ a +ℤ b
-    summed a b la lb = omega (arith, ints)
+pub few_times_fits : (n p : ℤ) → unsigned_abs n ≤ 2 → unsigned_abs p ≤ 347892350976 → SFits w64 (in64 n *ℤ in64 p)
+few_times_fits n p ln lp = times_fits n p (omega arith) (omega arith)
+
+-- so far on the way from a coordinate, as it is computed of the coordinate x
+module _ (x from way t : ℤ) (e : x ≡ from)
+    (lx : unsigned_abs x ≤ 1073741823) (lw : unsigned_abs way ≤ 2147483646) (lt : unsigned_abs t ≤ 1114112) where
+  way_is : in64 (in64 way *ℤ in64 t) ≡ way *ℤ t
+  way_is = wrapped_product way t 2147483646 1114112 lw lt (omega arith) (omega arith) (omega arith)
+
+  part_within : unsigned_abs (int_div (way *ℤ t) (pos 65536)) ≤ 2392537299812352
+  part_within =
+      let small = product_bound way t 2147483646 1114112 lw lt in
+      omega (arith, small, quotient_bound (way *ℤ t) (pos 65536))
+
+  part_is : in64 (int_div (in64 (in64 way *ℤ in64 t)) (pos 65536)) ≡ int_div (way *ℤ t) (pos 65536)
+  part_is = rw way_is (fits_64_bits (int_div (way *ℤ t) (pos 65536)) (omega (arith, part_within)))
+
+  sum_within : unsigned_abs (x +ℤ int_div (way *ℤ t) (pos 65536)) ≤ 2392538373554175
+  sum_within = omega (arith, sum_bound x (int_div (way *ℤ t) (pos 65536)), part_within)
+
+  pub way_fits : SFits w64 (in64 way *ℤ in64 t)
+  way_fits = product_fits way t 2147483646 1114112 lw lt (omega arith) (omega arith) (omega arith)
+
+  pub part_fits : (0 < 65536) × SFits w64 (int_div (in64 (in64 way *ℤ in64 t)) (pos 65536))
+  part_fits =
+      let positive : 0 < 65536 = omega arith in
+      rw way_is (positive, fits_signed_from_abs w64 (int_div (way *ℤ t) (pos 65536)) (omega (arith, part_within)))
+
+  pub advanced_fits : SFits w64 (in64 x +ℤ in64 (int_div (in64 (in64 way *ℤ in64 t)) (pos 65536)))
+  advanced_fits =
+      rw (part_is, fits_64_bits x (omega arith))
+      (fits_signed_from_abs w64 (x +ℤ int_div (way *ℤ t) (pos 65536)) (omega (arith, sum_within)))
+
+  pub advanced_is : in64 (in64 x +ℤ in64 (int_div (in64 (in64 way *ℤ in64 t)) (pos 65536))) ≡ from +ℤ int_div (way *ℤ t) (pos 65536)
+  advanced_is =
+      rw (part_is, fits_64_bits x (omega arith)) (fits_64_bits (x +ℤ int_div (way *ℤ t) (pos 65536)) (omega (arith, sum_within)))
+      ∙ ap (λ z. z +ℤ int_div (way *ℤ t) (pos 65536)) e
 
 -- ---- in 128 bits
 
 pub fits_128_bits : (z : ℤ) → unsigned_abs z ≤ 2 ^ 100 → in128 z ≡ z
 fits_128_bits z le = to_z-of_z w128 z (fits_signed_from_abs w128 z (omega arith))
 
-pub sum_fits : (a b : ℤ) → unsigned_abs a ≤ 2 ^ 98 → unsigned_abs b ≤ 2 ^ 98 → SFits w128 (in128 a +ℤ in128 b)
-sum_fits a b la lb =
-    rw (fits_128_bits a (omega arith), fits_128_bits b (omega arith)) (fits_signed_from_abs w128 (a +ℤ b) (omega (arith, sum_bound a b)))
-
-pub sum_is : (a b : ℤ) → unsigned_abs a ≤ 2 ^ 98 → unsigned_abs b ≤ 2 ^ 98 → in128 (in128 a +ℤ in128 b) ≡ a +ℤ b
+sum_is : (a b : ℤ) → unsigned_abs a ≤ 2 ^ 98 → unsigned_abs b ≤ 2 ^ 98 → in128 (in128 a +ℤ in128 b) ≡ a +ℤ b
 sum_is a b la lb =
     ap (λ z. in128 (z +ℤ in128 b)) (fits_128_bits a (omega arith))
     ∙ ap (λ z. in128 (a +ℤ z)) (fits_128_bits b (omega arith))
     ∙ fits_128_bits (a +ℤ b) (omega (arith, sum_bound a b))
 
--- a product with a coordinate
-pub weighted_within : (w x w' x' : ℤ) → w' ≡ w → x' ≡ x → unsigned_abs w ≤ 615585774066204672 → unsigned_abs x ≤ 2147483646
-    → unsigned_abs (in128 (in128 w' *ℤ in128 x')) ≤ unsigned_abs w * 2147483646
-weighted_within w x w' x' ew ex lw lx =
-    let bound = product_bound w x (unsigned_abs w) 2147483646 (omega arith) lx in
+-- ---- a weight n*p, which is n*e, and a coordinate x, which is a
+
+weighted_is : (w x : ℤ) → unsigned_abs w ≤ 615585774066204672 → unsigned_abs x ≤ 2147483646 → in128 (in128 w *ℤ in128 x) ≡ w *ℤ x
+weighted_is w x lw lx =
     let most = product_bound w x 615585774066204672 2147483646 lw lx in
-    rw (ew, ex, fits_128_bits w (omega arith), fits_128_bits x (omega arith), fits_128_bits (w *ℤ x) (omega (arith, most))) bound
+    rw (fits_128_bits w (omega arith), fits_128_bits x (omega arith)) (fits_128_bits (w *ℤ x) (omega (arith, most)))
 
-pub weighted_most : (w x w' x' : ℤ) → w' ≡ w → x' ≡ x → unsigned_abs w ≤ 615585774066204672 → unsigned_abs x ≤ 2147483646
-    → unsigned_abs (in128 (in128 w' *ℤ in128 x')) ≤ 2 ^ 92
-weighted_most w x w' x' ew ex lw lx = omega (arith, weighted_within w x w' x' ew ex lw lx, lw)
+weighted_fits : (w x : ℤ) → unsigned_abs w ≤ 615585774066204672 → unsigned_abs x ≤ 2147483646 → SFits w128 (in128 w *ℤ in128 x)
+weighted_fits w x lw lx =
+    let most = product_bound w x 615585774066204672 2147483646 lw lx in
+    rw (fits_128_bits w (omega arith), fits_128_bits x (omega arith)) (fits_signed_from_abs w128 (w *ℤ x) (omega (arith, most)))
 
--- ---- factors, and weighted coordinates, as callees tell them
+module _ (f g n p x : ℤ) (weight : f ≡ in64 (in64 n *ℤ in64 p)) (coordinate : g ≡ in64 x)
+    (ln : unsigned_abs n ≤ 3) (lp : unsigned_abs p ≤ 205195258022068224) (lx : unsigned_abs x ≤ 2147483646) where
+  weight_is : f ≡ n *ℤ p
+  weight_is = weight ∙ wrapped_product n p 3 205195258022068224 ln lp (omega arith) (omega arith) (omega arith)
 
-pub times_fits : (n p : ℤ) → unsigned_abs n ≤ 3 → unsigned_abs p ≤ 205195258022068224 → SFits w64 (n *ℤ in64 p)
-times_fits n p ln lp = rw (fits_64_bits p (omega arith)) (fits_signed_from_abs w64 (n *ℤ p)
-    (let small = product_bound n p 3 205195258022068224 ln lp in omega (arith, small)))
+  coordinate_is : g ≡ x
+  coordinate_is = coordinate ∙ fits_64_bits x (omega arith)
 
-pub times_within : (n p : ℤ) → unsigned_abs n ≤ 3 → unsigned_abs p ≤ 205195258022068224 → unsigned_abs (in64 (n *ℤ in64 p)) ≤ 615585774066204672
-times_within n p ln lp = rw (times_of n p ln lp) (product_bound n p 3 205195258022068224 ln lp)
+  pub term_fits : SFits w128 (in128 f *ℤ in128 g)
+  term_fits = rw (weight_is, coordinate_is) (weighted_fits (n *ℤ p) x (product_bound n p 3 205195258022068224 ln lp) lx)
 
--- a weight w, a coordinate x
-pub told_weighted : (r w x e a : ℤ) → unsigned_abs w ≤ 615585774066204672 → unsigned_abs x ≤ 2147483646 → r ≡ in64 w *ℤ in64 x → w ≡ e → x ≡ a
-    → r ≡ e *ℤ a
-told_weighted r w x e a lw lx is ew ex = is ∙ ap (λ z. z *ℤ in64 x) (fits_64_bits w lw ∙ ew) ∙ ap (λ z. e *ℤ z) (fits_64_bits x (omega arith) ∙ ex)
+  pub term_is : (e a : ℤ) → p ≡ e → x ≡ a → in128 (in128 f *ℤ in128 g) ≡ n *ℤ e *ℤ a
+  term_is e a ep ex =
+      rw (weight_is, coordinate_is) (weighted_is (n *ℤ p) x (product_bound n p 3 205195258022068224 ln lp) lx)
+      ∙ ap (λ z. n *ℤ z *ℤ x) ep
+      ∙ ap (λ z. n *ℤ e *ℤ z) ex
 
--- a weight n*p
-pub told_times : (r n p x e a : ℤ) → unsigned_abs n ≤ 3 → unsigned_abs p ≤ 205195258022068224 → unsigned_abs x ≤ 2147483646
-    → r ≡ in64 (n *ℤ in64 p) *ℤ in64 x → p ≡ e → x ≡ a → r ≡ n *ℤ e *ℤ a
-told_times r n p x e a ln lp lx is ep ex = is ∙ ap (λ z. z *ℤ in64 x) (times_of n p ln lp ∙ ap (λ z. n *ℤ z) ep) ∙ ap (λ z. n *ℤ e *ℤ z)
-    (fits_64_bits x (omega arith) ∙ ex)
+  pub term_within : (k q : ℕ) → unsigned_abs n ≤ k → unsigned_abs p ≤ q → unsigned_abs (in128 (in128 f *ℤ in128 g)) ≤ k * q * 2147483646
+  term_within k q lk lq = rw (term_is p x refl refl) (product_bound (n *ℤ p) x (k * q) 2147483646 (product_bound n p k q lk lq) lx)
 
--- ---- sums of them
+  pub cubic_term_within : unsigned_abs (in128 (in128 f *ℤ in128 g)) ≤ 2 ^ 92
+  cubic_term_within = omega (arith, term_within 3 205195258022068224 ln lp)
+
+module _ (f g n p x : ℤ) (weight : f ≡ in64 (in64 n *ℤ in64 p)) (coordinate : g ≡ in64 x)
+    (ln : unsigned_abs n ≤ 2) (lp : unsigned_abs p ≤ 347892350976) (lx : unsigned_abs x ≤ 2147483646) where
+  pub quadratic_term_fits : SFits w128 (in128 f *ℤ in128 g)
+  quadratic_term_fits = term_fits f g n p x weight coordinate (omega arith) (omega arith) lx
+
+  pub quadratic_term_is : (e a : ℤ) → p ≡ e → x ≡ a → in128 (in128 f *ℤ in128 g) ≡ n *ℤ e *ℤ a
+  quadratic_term_is = term_is f g n p x weight coordinate (omega arith) (omega arith) lx
+
+  pub quadratic_term_within : unsigned_abs (in128 (in128 f *ℤ in128 g)) ≤ 695784701952 * 2147483646
+  quadratic_term_within = term_within f g n p x weight coordinate (omega arith) (omega arith) lx 2 347892350976 ln lp
+
+-- a coordinate is no further than the way from one to another may be
+pub far_enough : (x : ℤ) → unsigned_abs x ≤ 1073741823 → unsigned_abs x ≤ 2147483646
+far_enough x le = omega arith
+
+once : (z a : ℤ) → pos 1 *ℤ z *ℤ a ≡ z *ℤ a
+once z a = let e : pos 1 *ℤ z ≡ z = omega (arith, ints) in ap (λ y. y *ℤ a) e
+
+-- ---- sums of terms
+
+pub two_fit : (a b : ℤ) → unsigned_abs a ≤ 2 ^ 92 → unsigned_abs b ≤ 2 ^ 92 → SFits w128 (in128 a +ℤ in128 b)
+two_fit a b la lb =
+    rw (fits_128_bits a (omega arith), fits_128_bits b (omega arith)) (fits_signed_from_abs w128 (a +ℤ b) (omega (arith, sum_bound a b)))
 
 pub three_fit : (a b c : ℤ) → unsigned_abs a ≤ 2 ^ 92 → unsigned_abs b ≤ 2 ^ 92 → unsigned_abs c ≤ 2 ^ 92
     → SFits w128 (in128 (in128 a +ℤ in128 b) +ℤ in128 c)
@@ -104,7 +160,7 @@ three_fit a b c la lb lc =
     rw (sum_is a b (omega arith) (omega arith), fits_128_bits c (omega arith))
     (fits_signed_from_abs w128 (a +ℤ b +ℤ c) (omega (arith, sum_bound a b, sum_bound (a +ℤ b) c)))
 
-pub three_is : (a b c : ℤ) → unsigned_abs a ≤ 2 ^ 92 → unsigned_abs b ≤ 2 ^ 92 → unsigned_abs c ≤ 2 ^ 92
+three_is : (a b c : ℤ) → unsigned_abs a ≤ 2 ^ 92 → unsigned_abs b ≤ 2 ^ 92 → unsigned_abs c ≤ 2 ^ 92
     → in128 (in128 (in128 a +ℤ in128 b) +ℤ in128 c) ≡ a +ℤ b +ℤ c
 three_is a b c la lb lc =
     ap (λ z. in128 (z +ℤ in128 c)) (sum_is a b (omega arith) (omega arith))
@@ -117,7 +173,7 @@ four_fit a b c d la lb lc ld =
     rw (three_is a b c la lb lc, fits_128_bits d (omega arith))
     (fits_signed_from_abs w128 (a +ℤ b +ℤ c +ℤ d) (omega (arith, sum_bound a b, sum_bound (a +ℤ b) c, sum_bound (a +ℤ b +ℤ c) d)))
 
-pub four_over : (a b c d : ℤ) → unsigned_abs a ≤ 2 ^ 92 → unsigned_abs b ≤ 2 ^ 92 → unsigned_abs c ≤ 2 ^ 92 → unsigned_abs d ≤ 2 ^ 92
+four_over : (a b c d : ℤ) → unsigned_abs a ≤ 2 ^ 92 → unsigned_abs b ≤ 2 ^ 92 → unsigned_abs c ≤ 2 ^ 92 → unsigned_abs d ≤ 2 ^ 92
     → in128 (int_div (in128 (in128 (in128 (in128 a +ℤ in128 b) +ℤ in128 c) +ℤ in128 d)) (pos 281474976710656)) ≡ int_div (a +ℤ b +ℤ c +ℤ d)
     (pos 281474976710656)
 four_over a b c d la lb lc ld =
@@ -127,56 +183,56 @@ four_over a b c d la lb lc ld =
     ∙ ap (λ z. in128 (int_div z (pos 281474976710656))) (fits_128_bits (a +ℤ b +ℤ c +ℤ d) (omega (arith, bound)))
     ∙ fits_128_bits (int_div (a +ℤ b +ℤ c +ℤ d) (pos 281474976710656)) (omega (arith, bound, quotient_bound (a +ℤ b +ℤ c +ℤ d) (pos 281474976710656)))
 
-same_four : (a b c d a' b' c' d' : ℤ) → a ≡ a' → b ≡ b' → c ≡ c' → d ≡ d' → a +ℤ b +ℤ c +ℤ d ≡ a' +ℤ b' +ℤ c' +ℤ d'
-same_four a b c d a' b' c' d' ea eb ec ed = rw (ea, eb, ec, ed) refl
-
-pub same_over : (a b c d a' b' c' d' n : ℤ) → a ≡ a' → b ≡ b' → c ≡ c' → d ≡ d' → int_div (a +ℤ b +ℤ c +ℤ d) n ≡ int_div (a' +ℤ b' +ℤ c' +ℤ d') n
-same_over a b c d a' b' c' d' n ea eb ec ed = ap (λ z. int_div z n) (same_four a b c d a' b' c' d' ea eb ec ed)
-
 pub four_over_fits : (a b c d : ℤ) → unsigned_abs a ≤ 2 ^ 92 → unsigned_abs b ≤ 2 ^ 92 → unsigned_abs c ≤ 2 ^ 92 → unsigned_abs d ≤ 2 ^ 92
-    → SFits w128 (int_div (in128 (in128 (in128 (in128 a +ℤ in128 b) +ℤ in128 c) +ℤ in128 d)) (pos 281474976710656))
+    → (0 < 281474976710656) × SFits w128 (int_div (in128 (in128 (in128 (in128 a +ℤ in128 b) +ℤ in128 c) +ℤ in128 d)) (pos 281474976710656))
 four_over_fits a b c d la lb lc ld =
+    let positive : 0 < 281474976710656 = omega arith in
     let bound : unsigned_abs (a +ℤ b +ℤ c +ℤ d) ≤ 2 ^ 94 = omega (arith, sum_bound a b, sum_bound (a +ℤ b) c, sum_bound (a +ℤ b +ℤ c) d) in
-    rw (three_is a b c la lb lc, fits_128_bits d (omega arith), fits_128_bits (a +ℤ b +ℤ c +ℤ d) (omega (arith, bound)))
-    (fits_signed_from_abs w128 (int_div (a +ℤ b +ℤ c +ℤ d) (pos 281474976710656))
-    (omega (arith, bound, quotient_bound (a +ℤ b +ℤ c +ℤ d) (pos 281474976710656))))
+    rw (three_is a b c la lb lc, fits_128_bits d (omega arith), fits_128_bits (a +ℤ b +ℤ c +ℤ d) (omega (arith, bound))) (
+      positive,
+      fits_signed_from_abs w128 (int_div (a +ℤ b +ℤ c +ℤ d) (pos 281474976710656))
+          (omega (arith, bound, quotient_bound (a +ℤ b +ℤ c +ℤ d) (pos 281474976710656))),
+    )
 
--- a sum of three, over 2 ^ 32, where it is below 2 ^ 72
-small_over : (a b c : ℤ) → unsigned_abs (a +ℤ b +ℤ c) ≤ 2 ^ 72 → unsigned_abs (int_div (a +ℤ b +ℤ c) (pos 4294967296)) ≤ 2 ^ 40
-small_over a b c most = omega (arith, abs_quotient (a +ℤ b +ℤ c) 4294967296, most)
+-- the terms f, g, h and k of a coordinate
+pub cubic_is : (f g h k u t a b c d : ℤ) → unsigned_abs f ≤ 2 ^ 92 → unsigned_abs g ≤ 2 ^ 92 → unsigned_abs h ≤ 2 ^ 92 → unsigned_abs k ≤ 2 ^ 92
+    → f ≡ pos 1 *ℤ (u *ℤ u *ℤ u) *ℤ a → g ≡ pos 3 *ℤ (u *ℤ u *ℤ t) *ℤ b → h ≡ pos 3 *ℤ (u *ℤ t *ℤ t) *ℤ c → k ≡ pos 1 *ℤ (t *ℤ t *ℤ t) *ℤ d
+    → in128 (int_div (in128 (in128 (in128 (in128 f +ℤ in128 g) +ℤ in128 h) +ℤ in128 k)) (pos 281474976710656)) ≡ cubic u t a b c d
+cubic_is f g h k u t a b c d lf lg lh lk ef eg eh ek =
+    four_over f g h k lf lg lh lk
+    ∙ rw (ef, eg, eh, ek, once (u *ℤ u *ℤ u) a, once (t *ℤ t *ℤ t) d) refl
 
-three_over_wide : (a b c : ℤ) → unsigned_abs a ≤ 2 ^ 92 → unsigned_abs b ≤ 2 ^ 92 → unsigned_abs c ≤ 2 ^ 92 → unsigned_abs (a +ℤ b +ℤ c) ≤ 2 ^ 72
-    → in128 (int_div (in128 (in128 (in128 a +ℤ in128 b) +ℤ in128 c)) (pos 4294967296)) ≡ int_div (a +ℤ b +ℤ c) (pos 4294967296)
-three_over_wide a b c la lb lc most =
-    ap (λ z. in128 (int_div z (pos 4294967296))) (three_is a b c la lb lc)
-    ∙ fits_128_bits (int_div (a +ℤ b +ℤ c) (pos 4294967296)) (omega (arith, small_over a b c most))
+-- ---- the three terms of a heading
 
-pub three_over_fits : (a b c : ℤ) → unsigned_abs a ≤ 2 ^ 92 → unsigned_abs b ≤ 2 ^ 92 → unsigned_abs c ≤ 2 ^ 92 → unsigned_abs (a +ℤ b +ℤ c) ≤ 2 ^ 72
-    → SFits w64 (in128 (int_div (in128 (in128 (in128 a +ℤ in128 b) +ℤ in128 c)) (pos 4294967296)))
-three_over_fits a b c la lb lc most =
-    rw (three_over_wide a b c la lb lc most) (fits_signed_from_abs w64 (int_div (a +ℤ b +ℤ c) (pos 4294967296))
-    (omega (arith, small_over a b c most)))
+small_over : (z : ℤ) → unsigned_abs z ≤ 2 ^ 72 → unsigned_abs (int_div z (pos 4294967296)) ≤ 2 ^ 40
+small_over z most = omega (arith, abs_quotient z 4294967296, most)
 
-pub three_over : (a b c : ℤ) → unsigned_abs a ≤ 2 ^ 92 → unsigned_abs b ≤ 2 ^ 92 → unsigned_abs c ≤ 2 ^ 92 → unsigned_abs (a +ℤ b +ℤ c) ≤ 2 ^ 72
-    → in64 (in128 (int_div (in128 (in128 (in128 a +ℤ in128 b) +ℤ in128 c)) (pos 4294967296))) ≡ int_div (a +ℤ b +ℤ c) (pos 4294967296)
-three_over a b c la lb lc most =
-    ap (λ z. in64 z) (three_over_wide a b c la lb lc most)
-    ∙ fits_64_bits (int_div (a +ℤ b +ℤ c) (pos 4294967296)) (omega (arith, small_over a b c most))
+module _ (f g h : ℤ)
+    (lf : unsigned_abs f ≤ 1494186268578904276992) (lg : unsigned_abs g ≤ 1494186268578904276992) (lh : unsigned_abs h ≤ 1494186268578904276992) where
+  three_short : unsigned_abs (int_div (f +ℤ g +ℤ h) (pos 4294967296)) ≤ 2 ^ 40
+  three_short = small_over (f +ℤ g +ℤ h) (omega (arith, sum_bound f g, sum_bound (f +ℤ g) h))
 
-pub three_over_short : (a b c : ℤ) → unsigned_abs a ≤ 2 ^ 92 → unsigned_abs b ≤ 2 ^ 92 → unsigned_abs c ≤ 2 ^ 92 → unsigned_abs (a +ℤ b +ℤ c) ≤ 2 ^ 72
-    → unsigned_abs (in64 (in128 (int_div (in128 (in128 (in128 a +ℤ in128 b) +ℤ in128 c)) (pos 4294967296)))) ≤ 2 ^ 40
-three_over_short a b c la lb lc most = rw (three_over a b c la lb lc most) (small_over a b c most)
+  three_over_wide : in128 (int_div (in128 (in128 (in128 f +ℤ in128 g) +ℤ in128 h)) (pos 4294967296)) ≡ int_div (f +ℤ g +ℤ h) (pos 4294967296)
+  three_over_wide =
+      ap (λ z. in128 (int_div z (pos 4294967296))) (three_is f g h (omega arith) (omega arith) (omega arith))
+      ∙ fits_128_bits (int_div (f +ℤ g +ℤ h) (pos 4294967296)) (omega (arith, three_short))
 
--- the three terms of a heading, whose weights are two products of two and twice one
-pub heading_most : (a b c p q r : ℤ) → unsigned_abs p ≤ 347892350976 → unsigned_abs q ≤ 347892350976 → unsigned_abs r ≤ 347892350976
-    → unsigned_abs a ≤ unsigned_abs (in64 p) * 2147483646 → unsigned_abs b ≤ unsigned_abs (in64 (pos 2 *ℤ in64 q)) * 2147483646
-    → unsigned_abs c ≤ unsigned_abs (in64 r) * 2147483646 → unsigned_abs (a +ℤ b +ℤ c) ≤ 2 ^ 72
-heading_most a b c p q r lp lq lr la lb lc =
-    let first : unsigned_abs a ≤ unsigned_abs p * 2147483646 = rw (fits_64_bits p (omega arith)) at la in
-    let second : unsigned_abs b ≤ unsigned_abs (pos 2 *ℤ q) * 2147483646 = rw (times_of (pos 2) q (omega arith) (omega arith)) at lb in
-    let third : unsigned_abs c ≤ unsigned_abs r * 2147483646 = rw (fits_64_bits r (omega arith)) at lc in
-    let twice = product_bound (pos 2) q 2 347892350976 (omega arith) lq in
-    omega (arith, first, second, third, twice, lp, lr, sum_bound a b, sum_bound (a +ℤ b) c)
+  three_over : in64 (in128 (int_div (in128 (in128 (in128 f +ℤ in128 g) +ℤ in128 h)) (pos 4294967296))) ≡ int_div (f +ℤ g +ℤ h) (pos 4294967296)
+  three_over = ap in64 three_over_wide ∙ fits_64_bits (int_div (f +ℤ g +ℤ h) (pos 4294967296)) (omega (arith, three_short))
 
-pub same_third : (a b c a' b' c' n : ℤ) → a ≡ a' → b ≡ b' → c ≡ c' → int_div (a +ℤ b +ℤ c) n ≡ int_div (a' +ℤ b' +ℤ c') n
-same_third a b c a' b' c' n ea eb ec = rw (ea, eb, ec) refl
+  pub first_terms_fit : SFits w128 (in128 f +ℤ in128 g)
+  first_terms_fit = two_fit f g (omega arith) (omega arith)
+
+  pub all_terms_fit : SFits w128 (in128 (in128 f +ℤ in128 g) +ℤ in128 h)
+  all_terms_fit = three_fit f g h (omega arith) (omega arith) (omega arith)
+
+  pub heading_fits : SFits w64 (in128 (int_div (in128 (in128 (in128 f +ℤ in128 g) +ℤ in128 h)) (pos 4294967296)))
+  heading_fits = rw three_over_wide (fits_signed_from_abs w64 (int_div (f +ℤ g +ℤ h) (pos 4294967296)) (omega (arith, three_short)))
+
+  pub heading_short : unsigned_abs (in64 (in128 (int_div (in128 (in128 (in128 f +ℤ in128 g) +ℤ in128 h)) (pos 4294967296)))) ≤ 2 ^ 40
+  heading_short = rw three_over three_short
+
+  pub heading_is : (u t a b c d : ℤ) → f ≡ pos 1 *ℤ (u *ℤ u) *ℤ (b -ℤ a) → g ≡ pos 2 *ℤ (u *ℤ t) *ℤ (c -ℤ b) → h ≡ pos 1 *ℤ (t *ℤ t) *ℤ (d -ℤ c)
+      → in64 (in128 (int_div (in128 (in128 (in128 f +ℤ in128 g) +ℤ in128 h)) (pos 4294967296))) ≡ heading u t a b c d
+  heading_is u t a b c d ef eg eh =
+      three_over ∙ rw (ef, eg, eh, once (u *ℤ u) (b -ℤ a), once (t *ℤ t) (d -ℤ c)) refl

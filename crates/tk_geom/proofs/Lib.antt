@@ -6,5 +6,8 @@ pub mod Appending
 pub mod Round
 pub mod Tangents
 pub mod Multiples
+pub mod Edges
 pub mod LinesDrawn
+pub mod GridPieces
 pub mod Forms
+pub mod Waypoints

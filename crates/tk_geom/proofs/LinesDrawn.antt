@@ -59,6 +59,10 @@ then_then g (Ok a) rest = deeper g a (rest a.units)
     deeper g a (Err fault) = refl
 then_then g (Err fault) rest = refl
 
+-- the number of a line that is left
+pub index_within : (i n most : ℕ) → i < n → n ≤ most → i ≤ most
+index_within i n most lt le = omega arith
+
 module _ (m : Matrix) (budget at : ℕ) where
   one_then : (drawn : Answer Grid) (xs ys : List GridLine)
       → ((units : ℕ) → lines_drawn m budget at units (xs ++ ys) ≡ then_grid (lines_drawn m budget at units xs) (λ n. lines_drawn m budget at n ys))
@@ -93,6 +97,14 @@ module _ (m : Matrix) (budget at : ℕ) where
   left_next f s first n i units line lt is =
       ap (λ ks. lines_drawn m budget at units (lines_at f s ks)) (rising_next first i n lt)
       ∙ ap (λ l. then_grid (line_drawn m budget at units l) (left_of f s first n (i + 1))) (sym is)
+
+  -- before the first line all are left
+  pub all_left : (f : ℤ → GridLine) (s first : ℤ) (n units : ℕ) → lines_drawn m budget at units (lines_at f s (rising first n)) ≡ left_of f s first n 0 units
+  all_left f s first n units =
+      let start : first ≡ first +ℤ pos 0 = omega (arith, ints) in
+      let count : n ≡ n - 0 = omega arith in
+      ap (λ k. lines_drawn m budget at units (lines_at f s (rising k n))) start
+      ∙ ap (λ k. lines_drawn m budget at units (lines_at f s (rising (first +ℤ pos 0) k))) count
 
   -- the i-th line was drawn: those from the next on are left
   pub line_more : (f : ℤ → GridLine) (s first : ℤ) (n i units used : ℕ) (line : GridLine) (old new : List Seg) → i < n

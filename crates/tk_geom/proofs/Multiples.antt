@@ -1,11 +1,14 @@
 -- The whole numbers whose products with a step lie between two bounds.
 use Rattle.std.proofs.Common.{◌≡◌, ◌↔◌, ℕ, zero, suc, ◌*◌, ◌<◌, length, get_or, Contains, ℤ, pos, negsuc, neg_ℤ, ◌+ℤ◌, ◌-ℤ◌, ◌*ℤ◌, ◌≤ℤ◌, ◌<ℤ◌}
-use Rattle.std.proofs.Common.{unsigned_abs, refl, sym, ap, subst, ◌∙◌, arith}
-use Rattle.std.specs.Int.{int_div_euclid}
-use Rattle.std.proofs.lemmas.Int.{ints}
+use Rattle.std.proofs.Common.{unsigned_abs, ◌≤◌, refl, sym, ap, subst, ◌∙◌, arith, SFits, to_z}
+use Rattle.std.specs.Int.{w64, int_div_euclid}
+use Rattle.std.proofs.lemmas.Int.{ints, to_z-of_z, to_z_pos, fits_signed_from_abs}
 use Rattle.std.proofs.Math.IntN.{neg_ℤ-neg_ℤ}
 use Rattle.std.proofs.Math.Nat.{le-div_iff_mul-le, div-lt_iff_lt-mul}
+use Rattle.tk_affine.proofs.Wide.{sum_bound, wrapped_product}
 use Rattle.tk_geom.specs.GridLines.{rising, ceiling_of, floor_of, count_between, multiples_between}
+use Rattle.tk_geom.proofs.Forms.{fits_64_bits, product_fits}
+use Rattle.tk_geom.proofs.Wrapped.{in64}
 
 -- ---- the quotients, for a step of n + 1
 
@@ -106,3 +109,61 @@ unfolding multiples_between
 multiples_rise low high s i j d lt within =
     let n : ℕ = count_between (ceiling_of low s) (floor_of high s) in
     rises_from (ceiling_of low s) n i j d lt (subst (λ m. j < m) (length-rising (ceiling_of low s) n) within)
+
+-- ---- the least quotient, as it is computed of the greatest one
+
+negated_is : (z : ℤ) → unsigned_abs z ≤ 1084479242 → pos 0 -ℤ in64 z ≡ neg_ℤ z
+negated_is z le = rw (fits_64_bits z (omega arith)) (omega (arith, ints))
+
+negated_within : (z : ℤ) (n : ℕ) → unsigned_abs z ≤ n → unsigned_abs (neg_ℤ z) ≤ n
+negated_within z n le = omega (arith, ints)
+
+pub negated_fits : (z : ℤ) → unsigned_abs z ≤ 1084479242 → SFits w64 (pos 0 -ℤ in64 z)
+negated_fits z le =
+    rw (negated_is z le) (fits_signed_from_abs w64 (neg_ℤ z) (let small = negated_within z 1084479242 le in omega (arith, small)))
+
+pub negated_dividend_fits : (z : ℤ) → unsigned_abs z ≤ 1084479241 → SFits w64 (pos 0 -ℤ in64 z)
+negated_dividend_fits z le = negated_fits z (omega arith)
+
+wrapped_negated_is : (z : ℤ) → unsigned_abs z ≤ 1084479242 → in64 (pos 0 -ℤ in64 z) ≡ neg_ℤ z
+wrapped_negated_is z le = rw (negated_is z le) (fits_64_bits (neg_ℤ z) (let small = negated_within z 1084479242 le in omega (arith, small)))
+
+pub negated_dividend_within : (z : ℤ) → unsigned_abs z ≤ 1084479241 → unsigned_abs (in64 (pos 0 -ℤ in64 z)) ≤ 1084479241
+negated_dividend_within z le = rw (wrapped_negated_is z (omega arith)) (negated_within z 1084479241 le)
+
+pub negated_quotient_within : (z : ℤ) → unsigned_abs z ≤ 1084479242 → unsigned_abs (in64 (pos 0 -ℤ in64 z)) ≤ 1084479242
+negated_quotient_within z le = rw (wrapped_negated_is z le) (negated_within z 1084479242 le)
+
+pub still_positive : (s : ℤ) → SFits w64 s → pos 0 <ℤ s → pos 0 <ℤ in64 s
+still_positive s fits lt = subst (λ z. pos 0 <ℤ z) (sym (to_z-of_z w64 s fits)) lt
+
+-- the quotient q of the negated number is rounded down
+pub ceiling_is : (q z s : ℤ) → SFits w64 s → unsigned_abs z ≤ 1084479241 → unsigned_abs q ≤ 1084479242 → q ≡ floor_of (in64 (pos 0 -ℤ in64 z)) (in64 s)
+    → in64 (pos 0 -ℤ in64 q) ≡ ceiling_of z s
+ceiling_is q z s fits lz lq e =
+    wrapped_negated_is q lq ∙ ap neg_ℤ (e ∙ ap (λ y. floor_of y (in64 s)) (wrapped_negated_is z (omega arith)) ∙ ap (floor_of (neg_ℤ z)) (to_z-of_z w64 s fits))
+
+-- ---- the multiple i steps after the first, as it is computed of the step r
+
+module _ (first : ℤ) (i : ℕ) (lf : unsigned_abs first ≤ 1084479242) (li : i ≤ 2168958485) where
+  pub index_fits : SFits w64 (pos i)
+  index_fits = fits_signed_from_abs w64 (pos i) (omega arith)
+
+  which_is : in64 first +ℤ to_z w64 i ≡ first +ℤ pos i
+  which_is = ap (λ z. z +ℤ to_z w64 i) (fits_64_bits first (omega arith)) ∙ ap (λ z. first +ℤ z) (to_z_pos w64 i (omega arith))
+
+  which_within : unsigned_abs (first +ℤ pos i) ≤ 3253437727
+  which_within = omega (arith, sum_bound first (pos i))
+
+  pub which_fits : SFits w64 (in64 first +ℤ to_z w64 i)
+  which_fits = rw which_is (fits_signed_from_abs w64 (first +ℤ pos i) (omega (arith, which_within)))
+
+  pub multiple_fits : (r : ℤ) → unsigned_abs r ≤ 1073741823 → SFits w64 (in64 (in64 first +ℤ to_z w64 i) *ℤ in64 r)
+  multiple_fits r lr =
+      rw which_is (product_fits (first +ℤ pos i) r 3253437727 1073741823 which_within lr (omega arith) (omega arith) (omega arith))
+
+  pub multiple_is : (r s : ℤ) → r ≡ s → unsigned_abs r ≤ 1073741823
+      → in64 (in64 (in64 first +ℤ to_z w64 i) *ℤ in64 r) ≡ (first +ℤ pos i) *ℤ s
+  multiple_is r s e lr =
+      rw which_is (wrapped_product (first +ℤ pos i) r 3253437727 1073741823 which_within lr (omega arith) (omega arith) (omega arith))
+      ∙ ap (λ z. (first +ℤ pos i) *ℤ z) e

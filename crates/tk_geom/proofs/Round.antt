@@ -4,7 +4,7 @@ use Rattle.std.proofs.lemmas.Bool.Decides.{nat_tests}
 use Rattle.tk_item.specs.declared.Point.{Point}
 use Rattle.tk_affine.specs.declared.AffFault.{AffFault}
 use Rattle.tk_affine.specs.declared.Matrix.{Matrix}
-use Rattle.tk_geom.specs.Arcs.{piece_count, spoke, arc_round, arc_pieces}
+use Rattle.tk_geom.specs.Arcs.{piece_count, spoke, arc_piece, arc_round, arc_pieces}
 use Rattle.tk_geom.specs.Pieces.{difference_of}
 
 not_zero : (n : ℕ) → n ≢ 0 → eqb n 0 ≡ false
@@ -23,3 +23,8 @@ pub faulty_spoke : (m : Matrix) (c : Point) (a b rx ry : ℤ) (n : ℕ) (fault :
     → arc_pieces m c a b rx ry ≡ Err fault
 unfolding arc_pieces
 faulty_spoke m c a b rx ry n fault count ne found = rw (← count, not_zero n ne, found) refl
+
+-- a piece by its control ratio k and its angles a and b, which are known by others
+pub same_piece : (m : Matrix) (centre : Point) (rx ry k a b k' a' b' : ℤ) → k ≡ k' → a ≡ a' → b ≡ b'
+    → arc_piece m centre rx ry k a b ≡ arc_piece m centre rx ry k' a' b'
+same_piece m centre rx ry k a b k' a' b' ek ea eb = rw (ek, ea, eb) refl

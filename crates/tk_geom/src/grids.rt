@@ -1,6 +1,6 @@
 //! Grids.
 
-ghost use Rattle.std.specs.Prelude.{◌≡◌, ◌≤◌, ◌<ℤ◌, ◌+ℤ◌, ◌*ℤ◌, pos, unsigned_abs};
+ghost use Rattle.std.specs.Prelude.{◌≡◌, ◌≤◌, ◌<ℤ◌, ◌+ℤ◌, ◌*ℤ◌, ◌&&◌, int_lt, pos, unsigned_abs};
 ghost use Rattle.std.specs.Int.{int_min, int_max};
 ghost use Rattle.tk_token.specs.Refusals.{Gives};
 ghost use Rattle.tk_geom.specs.GridLines as spec;
@@ -60,16 +60,6 @@ struct Parallels {
     ends: Span,
 }
 
-/// The least whole number whose product with the step is at least z.
-fn ceiling_of(z: i64, step: i64) -> i64
-    requires step { pos 0 <ℤ step }
-    requires z { unsigned_abs z ≤ 1084479241 }
-    ensures value { result ≡ spec.ceiling_of z step }
-    ensures within { unsigned_abs result ≤ 1084479242 }
-{
-    -(-z).div_euclid(step)
-}
-
 /// The greatest whole number whose product with the step is at most z.
 fn floor_of(z: i64, step: i64) -> i64
     requires step { pos 0 <ℤ step }
@@ -78,6 +68,16 @@ fn floor_of(z: i64, step: i64) -> i64
     ensures within { unsigned_abs result ≤ 1084479242 }
 {
     z.div_euclid(step)
+}
+
+/// The least whole number whose product with the step is at least z.
+fn ceiling_of(z: i64, step: i64) -> i64
+    requires step { pos 0 <ℤ step }
+    requires z { unsigned_abs z ≤ 1084479241 }
+    ensures value { result ≡ spec.ceiling_of z step }
+    ensures within { unsigned_abs result ≤ 1084479242 }
+{
+    -floor_of(-z, step)
 }
 
 /// How many whole numbers there are from `a` to `b`.
@@ -251,6 +251,13 @@ fn push_between(
     Ok(())
 }
 
+/// Whether both steps are positive.
+fn are_positive(sx: Scaled, sy: Scaled) -> bool
+    ensures { result ≡ (int_lt (pos 0) sx && int_lt (pos 0) sy) }
+{
+    0 < sx.sp() && 0 < sy.sp()
+}
+
 /// Puts the pieces of the grid with `p` and `q` at opposite corners, along the axes of the matrix, at the end of a
 /// path. With the two corners as the matrix has them, there is a line from below to above at each multiple of `sx`
 /// between them, from left to right, then one from left to right at each multiple of `sy`, upward; a multiple up to a
@@ -264,7 +271,6 @@ fn push_between(
 ///
 /// With steps of 1cm the grid from (0,0) to (28.45274,28.45274) has the lines from (0,0) to (0,28.45274), from
 /// (28.45274,0) to (28.45274,28.45274), from (0,0) to (28.45274,0) and from (0,28.45274) to (28.45274,28.45274).
-#[tactic(auto, unfolding(crate::specs::Grids::grid_pieces))]
 pub fn push_grid(
     segs: &mut Segs,
     m: Matrix,
@@ -280,7 +286,7 @@ pub fn push_grid(
     ensures budget { units.new.budget ≡ units.old.budget }
     ensures kept { Continues segs.old segs.new }
 {
-    if sx.sp() <= 0 || sy.sp() <= 0 {
+    if !are_positive(sx, sy) {
         return Err(Refusal::new(Code::Domain, at));
     }
     let (low, high) = answer_at(corners(&m, &p, &q), at)?;

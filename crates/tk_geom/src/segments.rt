@@ -64,65 +64,77 @@ fn on_corner(p: &Point, corner: &Point, q: &Point, t: i64) -> Result<(Point, i64
 }
 
 /// x*y.
-fn product_of_two(x: i64, y: i64) -> i64
+fn product_of_two(x: Scaled, y: Scaled) -> i64
     requires x { unsigned_abs x ≤ 589824 }
     requires y { unsigned_abs y ≤ 589824 }
     ensures value { result ≡ x *ℤ y }
     ensures within { unsigned_abs result ≤ 347892350976 }
 {
-    x * y
+    x.sp() * y.sp()
 }
 
 /// x*y*z.
-fn product_of_three(x: i64, y: i64, z: i64) -> i64
+fn product_of_three(x: Scaled, y: Scaled, z: Scaled) -> i64
     requires x { unsigned_abs x ≤ 589824 }
     requires y { unsigned_abs y ≤ 589824 }
     requires z { unsigned_abs z ≤ 589824 }
     ensures value { result ≡ x *ℤ y *ℤ z }
     ensures within { unsigned_abs result ≤ 205195258022068224 }
 {
-    product_of_two(x, y) * z
+    product_of_two(x, y) * z.sp()
 }
 
-/// w*x.
-fn weighted(w: i64, x: i64) -> i128
-    requires w { unsigned_abs w ≤ 615585774066204672 }
-    requires x { unsigned_abs x ≤ 2147483646 }
-    ensures value { result ≡ w *ℤ x }
-    ensures within { unsigned_abs result ≤ unsigned_abs w * 2147483646 }
+/// A number of times x*y*z, for a coordinate.
+fn cubic_term(times: i64, x: Scaled, y: Scaled, z: Scaled, coordinate: Scaled) -> i128
+    requires times { unsigned_abs times ≤ 3 }
+    requires x { unsigned_abs x ≤ 589824 }
+    requires y { unsigned_abs y ≤ 589824 }
+    requires z { unsigned_abs z ≤ 589824 }
+    ensures value { result ≡ times *ℤ (x *ℤ y *ℤ z) *ℤ coordinate }
     ensures most { unsigned_abs result ≤ 2 ^ 92 }
 {
-    i128::from(w) * i128::from(x)
+    i128::from(times * product_of_three(x, y, z)) * i128::from(coordinate.sp())
+}
+
+/// A number of times x*y, for the way from a coordinate to another.
+fn quadratic_term(times: i64, x: Scaled, y: Scaled, from: Scaled, to: Scaled) -> i128
+    requires times { unsigned_abs times ≤ 2 }
+    requires x { unsigned_abs x ≤ 589824 }
+    requires y { unsigned_abs y ≤ 589824 }
+    ensures value { result ≡ times *ℤ (x *ℤ y) *ℤ (to -ℤ from) }
+    ensures most { unsigned_abs result ≤ 695784701952 * 2147483646 }
+{
+    i128::from(times * product_of_two(x, y)) * i128::from(difference(to, from))
 }
 
 /// The coordinate at `t` of a curve, where `u` is left of the way.
-fn cubic(u: i64, t: i64, axis: &Axis) -> i128
+fn cubic(u: Scaled, t: Scaled, axis: &Axis) -> i128
     requires u { unsigned_abs u ≤ 589824 }
     requires t { unsigned_abs t ≤ 589824 }
     ensures { result ≡ spec.cubic u t axis.now.a axis.now.b axis.now.c axis.now.d }
 {
-    let first = weighted(product_of_three(u, u, u), axis.a.sp());
-    let second = weighted(3 * product_of_three(u, u, t), axis.b.sp());
-    let third = weighted(3 * product_of_three(u, t, t), axis.c.sp());
-    let fourth = weighted(product_of_three(t, t, t), axis.d.sp());
+    let first = cubic_term(1, u, u, u, axis.a);
+    let second = cubic_term(3, u, u, t, axis.b);
+    let third = cubic_term(3, u, t, t, axis.c);
+    let fourth = cubic_term(1, t, t, t, axis.d);
     (first + second + third + fourth) / 281_474_976_710_656
 }
 
 /// A third of how fast the coordinate of a curve changes at `t`, where `u` is left of the way.
-fn heading(u: i64, t: i64, axis: &Axis) -> i64
+fn heading(u: Scaled, t: Scaled, axis: &Axis) -> i64
     requires u { unsigned_abs u ≤ 589824 }
     requires t { unsigned_abs t ≤ 589824 }
     ensures value { result ≡ spec.heading u t axis.now.a axis.now.b axis.now.c axis.now.d }
     ensures short { unsigned_abs result ≤ 2 ^ 40 }
 {
-    let first = weighted(product_of_two(u, u), difference(axis.b, axis.a));
-    let second = weighted(2 * product_of_two(u, t), difference(axis.c, axis.b));
-    let third = weighted(product_of_two(t, t), difference(axis.d, axis.c));
+    let first = quadratic_term(1, u, u, axis.a, axis.b);
+    let second = quadratic_term(2, u, t, axis.b, axis.c);
+    let third = quadratic_term(1, t, t, axis.c, axis.d);
     ((first + second + third) / 4_294_967_296) as i64
 }
 
 /// At `t` on a curve, by the coordinates of its points on each axis, where `u` is left of the way.
-fn on_axes(u: i64, t: i64, x: &Axis, y: &Axis) -> Result<(Point, i64, i64), AffFault>
+fn on_axes(u: Scaled, t: Scaled, x: &Axis, y: &Axis) -> Result<(Point, i64, i64), AffFault>
     requires u { unsigned_abs u ≤ 589824 }
     requires t { unsigned_abs t ≤ 589824 }
     ensures value { result ≡ spec.waypoint_at
@@ -144,7 +156,7 @@ fn on_curve(
     b: &Point,
     c: &Point,
     d: &Point,
-    t: i64,
+    t: Scaled,
 ) -> Result<(Point, i64, i64), AffFault>
     requires { unsigned_abs t ≤ 524288 }
     ensures value { result ≡ spec.on_curve a.now b.now c.now d.now t }
@@ -162,7 +174,7 @@ fn on_curve(
         c: c.y,
         d: d.y,
     };
-    on_axes(65_536 - t, t, &x, &y)
+    on_axes(Scaled::within(65_536 - t.sp()), t, &x, &y)
 }
 
 /// The point at `t` on what a path drew last, and the direction in which the path goes there, as the two numbers of a
@@ -185,6 +197,6 @@ pub fn on_segment(last: &Last, t: Scaled) -> Result<(Point, i64, i64), AffFault>
         Last::Nowhere(p) => Ok((*p, 0, 0)),
         Last::Line(p, q) => on_line(p, q, t.sp()),
         Last::Corner(p, corner, q) => on_corner(p, corner, q, t.sp()),
-        Last::Curve(a, b, c, d) => on_curve(a, b, c, d, t.sp()),
+        Last::Curve(a, b, c, d) => on_curve(a, b, c, d, t),
     }
 }
