@@ -101,6 +101,7 @@ impl State {
     {
         let mut names = names;
         let made = make_words(&mut names)?;
+        let saved = Vec::with_capacity(alloc, MOST_LEVELS)?;
         Ok(State {
             alloc,
             names,
@@ -108,7 +109,7 @@ impl State {
             font,
             store: first_store(alloc, made.also)?,
             graphics: GraphicsState::initial(font),
-            saved: Vec::with_capacity(alloc, MOST_LEVELS)?,
+            saved,
             lists: 0,
             units: Units { used: 0, budget },
             spare: String::new(alloc),
