@@ -86,5 +86,6 @@ keys_from given origin at list st = do
 abbrev pub contents_run : Given → ℕ → List Tok → Standing → Answer Standing
 contents_run given at contents st = do
   inside ← level at st.now.env
-  after ← runs given (Some_settings (standing (record st.now { env = inside }) st.dir (unread contents (end_of at contents))))
+  let list = unread contents (end_of at contents)
+  after ← runs given (Some_settings (standing (record st.now { env = inside }) st.dir list))
   Ok (standing (with_paid st.now after.now.units) st.dir st.list)
