@@ -1,7 +1,7 @@
 -- Private: only private contracts use this. What the code holds, as the definitions see it.
 use Rattle.std.specs.Prelude.{ℕ, ℤ, List, [], Option, Ok, option_map, string_bytes}
 use Rattle.tk_token.specs.Answers.{Answer, ◌>>=◌}
-use Rattle.tk_token.specs.Texts.{text_in}
+use Rattle.tk_token.specs.Texts.{text_in, tokens_of}
 use Rattle.tk_store.specs.declared.Run.{Run}
 use Rattle.tk_store.specs.Levels.{Macros}
 use Rattle.tk_expand.specs.Expand.{stream, full}
@@ -15,11 +15,11 @@ use Rattle.tk_keys.specs.declared.keys.Runner.{Runner}
 use Rattle.tk_keys.specs.declared.setting.Origin.{Origin}
 use Rattle.std.specs.FinMap as map
 use Rattle.tk_look.specs.Graphics.{initial_graphics}
-use Rattle.tk_keys.specs.Environment.{Situation, level, with_paid}
+use Rattle.tk_keys.specs.Environment.{Situation, level, with_paid, with_text}
 use Rattle.tk_keys.specs.Given.{Given}
 use Rattle.tk_keys.specs.Keys.{Deed, Effect, Named, PaidText}
 use Rattle.tk_keys.specs.Settings.{KeyRead, ExpressionValue, Standing, standing, Some_settings, A_key_list}
-use Rattle.tk_keys.specs.Settings.{runs, begins_at, dir_behind}
+use Rattle.tk_keys.specs.Settings.{Set, set_behind, runs, begins_at, dir_behind}
 use Rattle.tk_keys.specs.State.{State, situation_of}
 
 -- what a key leaves
@@ -67,6 +67,10 @@ situation_by font macros units =
 -- a value, and the units behind it
 abbrev pub value_behind : ℤ → ℕ → ExpressionValue
 value_behind value units = record { value = value; units = units }
+
+-- what is behind a setting that gives a word the text of a number
+abbrev pub number_set : (ℤ → List ℕ) → ℕ → ℕ → ℤ → Situation → Unread → Set
+number_set written at word value s list = set_behind (with_text s word (tokens_of at (written value))) list
 
 -- a text that was paid for
 abbrev pub paid_by : List Tok → ℕ → PaidText

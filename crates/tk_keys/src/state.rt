@@ -1,7 +1,8 @@
 //! The state of a run.
 
-ghost use Rattle.std.specs.Prelude.{◌≡◌, ℕ, [], ◌∷◌, ◌+◌, ◌-◌, ◌<◌, ◌≤◌, length, IfNone, option_to_list, IfOk, OnOk};
+ghost use Rattle.std.specs.Prelude.{◌≡◌, ℕ, [], ◌∷◌, ◌++◌, ◌+◌, ◌-◌, ◌<◌, ◌≤◌, length, IfNone, option_to_list, IfOk, OnOk};
 ghost use Rattle.std.specs.Prelude.{OnErr, MatchResult, Ok, Err};
+ghost use Rattle.std.specs.Vec.{vec_capacity};
 ghost use Rattle.tk_token.specs.Refusals.{Gives};
 ghost use Rattle.tk_store.specs.Levels.{opened};
 ghost use Rattle.tk_token.specs.Kinds.{is_char};
@@ -249,9 +250,7 @@ impl State {
         ensures high { steps.new ≤ steps.old + self.old.levels.top.settings }
     {
         self.store.close(steps);
-        if let Some(graphics) = self.saved.pop() {
-            self.graphics = graphics;
-        }
+        put_back(&mut self.saved, &mut self.graphics);
     }
 
     /// Closes the last level and counts no steps. This takes no memory.
@@ -266,9 +265,7 @@ impl State {
         } }
     {
         self.store.close_uncounted();
-        if let Some(graphics) = self.saved.pop() {
-            self.graphics = graphics;
-        }
+        put_back(&mut self.saved, &mut self.graphics);
     }
 
     /// Sets whether what follows is drawn and filled. This takes no memory.
@@ -291,6 +288,17 @@ impl State {
         ensures { result.now ≡ self.now.graphics }
     {
         &self.graphics
+    }
+}
+
+/// The last of the saved ones is again where and how what follows is drawn.
+fn put_back(saved: &mut Vec<GraphicsState>, graphics: &mut GraphicsState)
+    requires { 0 < length saved.old.items }
+    ensures items { saved.old.items ≡ saved.new.items ++ graphics.new ∷ [] }
+    ensures capacity { vec_capacity saved.new ≡ vec_capacity saved.old }
+{
+    if let Some(last) = saved.pop() {
+        *graphics = last;
     }
 }
 
