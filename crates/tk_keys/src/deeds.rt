@@ -128,16 +128,17 @@ impl State {
         expand_all(self.alloc, list, &self.store, &mut self.units)
     }
 
-    /// A native key sets where and how what follows is drawn.
+    /// A native key sets where and how what follows is drawn, and leaves nothing to be run.
     fn set_graphics(
         &mut self,
         at: u32,
         name: &str,
         key: Native,
         value: Option<&[Tok]>,
-    ) -> Result<(), Refusal>
+    ) -> Result<Deed, Refusal>
         ensures gives { Gives (λ _. self.new.graphics) result
             (graphics_by at evaluated self.old.font key name.now (option_copied value.entry) self.old.graphics) }
+        ensures text { IfOk result (λ deed. deed.text ≡ None) }
         ensures kept { self.new ≡ record self.old { graphics = self.new.graphics } }
     {
         graphics_set(
@@ -148,7 +149,8 @@ impl State {
             key,
             value,
             self.font,
-        )
+        )?;
+        Ok(done())
     }
 
     /// A native key, with the name by which it was asked: its value is expanded, and then it sets where and how what
@@ -167,16 +169,13 @@ impl State {
         ensures used { OnOk result (self.old.units ≤ self.new.units) }
     {
         let Some(list) = value else {
-            self.set_graphics(at, name, key, None)?;
-            return Ok(done());
+            return self.set_graphics(at, name, key, None);
         };
         if is_expanded(list, &self.store) {
-            self.set_graphics(at, name, key, Some(list))?;
-            return Ok(done());
+            return self.set_graphics(at, name, key, Some(list));
         }
         let list = self.expanded_list(at, list)?;
-        self.set_graphics(at, name, key, Some(&list))?;
-        Ok(done())
+        self.set_graphics(at, name, key, Some(&list))
     }
 
     /// What a run makes of a value, if it isn't a choice; the name is the one by which the key was asked.
