@@ -3,23 +3,27 @@ use Rattle.std.specs.Prelude.{ℕ, ◌+◌, ◌<◌, ◌≤◌, List, [], ◌∷
 use Rattle.std.proofs.Common.{◌≡◌, sym, ap, subst, ◌∙◌}
 use Rattle.tk_token.specs.declared.Refusal.{Refusal}
 use Rattle.tk_token.specs.declared.Tok.{Tok}
-use Rattle.tk_token.specs.Answers.{Answer, ◌>>=◌}
+use Rattle.tk_token.specs.declared.Code.TheVariants.{MacroArg, NotASetting}
+use Rattle.tk_token.specs.Answers.{Answer, ◌>>=◌, or_fault}
+use Rattle.tk_token.specs.Groups.{Cut, cut, group_of}
 use Rattle.tk_token.specs.Refusals.{Fails}
 use Rattle.tk_token.proofs.Answering.{fails_then, fails_as, then_is, known_of}
-use Rattle.tk_expand.specs.Reading.{Next, taken, next}
-use Rattle.tk_expand.specs.Unread.{Unread}
+use Rattle.tk_expand.specs.Arguments.{argument_of}
+use Rattle.tk_expand.specs.Reading.{Next, taken, next, read}
+use Rattle.tk_expand.specs.Unread.{Unread, unread}
 use Rattle.tk_expr.specs.Evaluated.{evaluated}
 use Rattle.tk_expr.specs.Evaluates.{Evaluation, IsEvaluation}
 use Rattle.tk_expr.proofs.Evaluations.{is_evaluated}
+use Rattle.tk_keys.specs.declared.setting.Origin.{Origin}
 use Rattle.tk_keys.specs.declared.setting.Setting.{Setting}
 use Rattle.tk_keytext.specs.Parts.{KeyPart}
 use Rattle.tk_keys.specs.declared.deeds.Deed as code
 use Rattle.tk_keys.specs.Given.{Given}
 use Rattle.tk_keys.specs.Keys.{part}
 use Rattle.tk_keys.specs.Settings.{Ending, Standing, standing, Set, set_behind, Runnable, set, set_alone, one_setting, standing_behind, Some_settings}
-use Rattle.tk_keys.specs.Settings.{set_or_group, setting_of, settings_from, part_run, parts, runs}
+use Rattle.tk_keys.specs.Settings.{set_or_group, setting_of, settings_from, set_keys, group, part_run, parts, runs}
 use Rattle.tk_keys.specs.State.{State, env_of, given_of, stream_of, situation_of, standing_of, ending_of, Pays, Keeps, behind_set}
-use Rattle.tk_keys.specs.Views.{effect_of}
+use Rattle.tk_keys.specs.Views.{effect_of, keys_from, contents_run}
 use Rattle.tk_keys.proofs.DeedPlaces.{TextAt, EffectAt, part_at}
 use Rattle.tk_keys.proofs.Ran.{Any, any_part, any_env, any_evaluates, run_is}
 use Rattle.tk_keys.proofs.Standing.{ok_at}
@@ -44,7 +48,7 @@ pays_keeps a b p = record {
   lists = ap (λ (s : State). s.lists) p;
 }
 
-abbrev given_at : State → Given
+abbrev pub given_at : State → Given
 given_at s = given_of evaluated s
 
 given_same : (old new : State) → Keeps old new → given_at new ≡ given_at old
@@ -103,6 +107,23 @@ module _ (old now : State) (kept : Keeps old now) (dir : List ℕ) (list : Unrea
           → Fails e (set_or_group (given_at paid) (runs (given_at paid)) (setting_of paid.names t.kind) t (standing_of paid dir behind))
           → Fails e run_here
       set_fails e k = fails_as e _ _ first_set (fails_then e (set_from paid) _ k)
+
+-- ---- a key list, or the contents of a group, which were taken
+
+module _ (given : Given) (at : ℕ) (st : Standing) (text : List Tok) (behind : Unread) (end : behind.end ≡ st.list.end) where
+  pub keys_taken : (origin : Origin) → or_fault (argument_of st.list.rest) MacroArg at ≡ Ok (cut text behind.rest)
+      → set_keys given (runs given) origin at st ≡ keys_from given origin at text (standing st.now st.dir behind)
+  keys_taken origin h =
+      ap (λ (found : Answer Cut). (found >>= λ f. Ok (read f.front (unread f.rest st.list.end)))
+      >>= λ list. keys_from given origin at list.value (standing st.now st.dir list.list)) h
+      ∙ ap (λ (end : ℕ). keys_from given origin at text (standing st.now st.dir (unread behind.rest end))) (sym end)
+
+  pub group_taken : Some (cut text behind.rest) ≡ group_of st.list.rest
+      → group given (runs given) at st ≡ contents_run given at text (standing st.now st.dir behind)
+  group_taken h =
+      ap (λ (found : Option Cut). or_fault found NotASetting at
+      >>= λ f. contents_run given at f.front (standing st.now st.dir (unread f.rest st.list.end))) (sym h)
+      ∙ ap (λ (end : ℕ). contents_run given at text (standing st.now st.dir (unread behind.rest end))) (sym end)
 
 -- ---- parts
 

@@ -1,14 +1,14 @@
 -- Names and expressions as the code reads them.
-use Rattle.std.specs.Prelude.{ℕ, true, List, Option, Ok, Err}
+use Rattle.std.specs.Prelude.{ℕ, ℤ, true, List, Option, Ok, Err}
 use Rattle.std.proofs.Common.{◌≡◌, sym, ap, ◌∙◌}
 use Rattle.tk_token.specs.declared.Fault.{Fault}
 use Rattle.tk_token.specs.declared.Tok.{Tok}
 use Rattle.tk_token.specs.Answers.{Answer, ◌>>=◌}
-use Rattle.tk_token.specs.Texts.{text_in}
+use Rattle.tk_token.specs.Texts.{text_in, tokens_of}
 use Rattle.tk_token.proofs.Answering.{then_is}
 use Rattle.tk_store.specs.Levels.{Macros}
 use Rattle.tk_expand.specs.Expand.{Stream, stream, is_expanded, full}
-use Rattle.tk_expand.specs.Unread.{unread}
+use Rattle.tk_expand.specs.Unread.{Unread, unread}
 use Rattle.tk_expand.proofs.Finished.{full_own}
 use Rattle.tk_expr.specs.declared.FontUnits.{FontUnits}
 use Rattle.tk_expr.specs.declared.Value.{Value}
@@ -16,8 +16,9 @@ use Rattle.tk_expr.specs.Evaluated.{evaluated}
 use Rattle.tk_expr.specs.Evaluates.{Evaluates}
 use Rattle.tk_expr.proofs.OneAnswer.{a_text_has_one_answer}
 use Rattle.tk_expr.proofs.Runs.{evaluated_is_the_answer}
-use Rattle.tk_keys.specs.Settings.{ExpressionValue, expression_value}
-use Rattle.tk_keys.specs.Views.{expanded_text, value_behind, given_by, situation_by}
+use Rattle.tk_keys.specs.Environment.{Situation, with_text}
+use Rattle.tk_keys.specs.Settings.{ExpressionValue, expression_value, set_behind}
+use Rattle.tk_keys.specs.Views.{expanded_text, number_set, value_behind, given_by, situation_by}
 
 -- where nothing in a list calls, it is its own expansion
 pub text_own : (budget : ℕ) (macros : Macros) (units at : ℕ) (list : List Tok) (text : Option (List ℕ)) → true ≡ is_expanded macros list
@@ -50,3 +51,9 @@ module _ (font : FontUnits) (budget : ℕ) (macros : Macros) (before at : ℕ) (
       → expression_value (given_by font budget) at list (situation_by font macros before) ≡ Err fault
   number_fails fault is = number_from ∙ ap (λ (a : Answer Value). a
       >>= λ found. (let answer : Answer ExpressionValue = Ok (value_behind found.number units) in answer)) (evaluated_is font at toks (Err fault) is)
+
+-- a word stands for the text of a number
+pub number_written : (written : ℤ → List ℕ) (at word : ℕ) (value : ℤ) (old new : Situation) (list : Unread) (text : List ℕ)
+    → text ≡ written value → new ≡ with_text old word (tokens_of at text) → number_set written at word value old list ≡ set_behind new list
+number_written written at word value old new list text is set =
+    ap (λ (s : Situation). set_behind s list) (sym (set ∙ ap (λ (text : List ℕ). with_text old word (tokens_of at text)) is))

@@ -23,16 +23,23 @@ runs_so now new {path} is h = subst (λ (run : Run). SetsKey now new path (runni
 pub none_set : (old : Levels) → HasEntries old old []
 none_set old = record { outer = refl; macros = refl; keys = refl }
 
+-- those of one table are set behind those of another
+pub both_set : (old now new : Levels) (es fs : List (List ℕ × Entry)) → HasEntries old now es → HasEntries now new fs
+    → HasEntries old new (es ++ fs)
+both_set old now new es fs h k = record {
+  outer = k.outer ∙ h.outer;
+  macros = k.macros ∙ h.macros;
+  keys = k.keys ∙ ap (λ (keys : Keys). with_entries keys fs) h.keys ∙ sym (entries_behind old.top.keys es fs);
+}
+
 -- one more is set
 set_behind : (old now new : Levels) (es : List (List ℕ × Entry)) (e : List ℕ × Entry) → HasEntries old now es → SetsKey now new e.0 e.1
     → HasEntries old new (es ++ e ∷ [])
-set_behind old now new es e h s = record {
-  outer = ap (λ (l : Levels). l.outer) s.levels ∙ h.outer;
-  macros = ap (λ (l : Levels). l.top.macros) s.levels ∙ h.macros;
-  keys = ap (λ (l : Levels). l.top.keys) s.levels
-      ∙ ap (λ (keys : Keys). finmap.insert keys e.0 e.1) h.keys
-      ∙ sym (entries_behind old.top.keys es (e ∷ []));
-}
+set_behind old now new es e h s = both_set old now new es (e ∷ []) h (record {
+  outer = ap (λ (l : Levels). l.outer) s.levels;
+  macros = ap (λ (l : Levels). l.top.macros) s.levels;
+  keys = ap (λ (l : Levels). l.top.keys) s.levels;
+})
 
 module _ {A : Type 0} (f : A → List ℕ × Entry) (old : Levels) (rows : List A) where
   -- the next row of a table is set

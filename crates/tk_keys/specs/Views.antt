@@ -1,22 +1,25 @@
 -- Private: only private contracts use this. What the code holds, as the definitions see it.
 use Rattle.std.specs.Prelude.{ℕ, ℤ, List, [], Option, Ok, option_map, string_bytes}
 use Rattle.tk_token.specs.Answers.{Answer, ◌>>=◌}
-use Rattle.tk_token.specs.Texts.{text_in}
+use Rattle.tk_token.specs.Texts.{text_in, tokens_of}
 use Rattle.tk_store.specs.declared.Run.{Run}
 use Rattle.tk_store.specs.Levels.{Macros}
 use Rattle.tk_expand.specs.Expand.{stream, full}
 use Rattle.tk_expr.specs.declared.FontUnits.{FontUnits}
 use Rattle.tk_expr.specs.Evaluated.{evaluated}
 use Rattle.tk_token.specs.declared.Tok.{Tok}
+use Rattle.tk_token.specs.Places.{end_of}
 use Rattle.tk_expand.specs.Unread.{Unread, unread}
 use Rattle.tk_keys.specs.declared.deeds.Deed as code
 use Rattle.tk_keys.specs.declared.keys.Runner.{Runner}
+use Rattle.tk_keys.specs.declared.setting.Origin.{Origin}
 use Rattle.std.specs.FinMap as map
 use Rattle.tk_look.specs.Graphics.{initial_graphics}
-use Rattle.tk_keys.specs.Environment.{Situation}
+use Rattle.tk_keys.specs.Environment.{Situation, level, with_paid, with_text}
 use Rattle.tk_keys.specs.Given.{Given}
 use Rattle.tk_keys.specs.Keys.{Deed, Effect, Named, PaidText}
-use Rattle.tk_keys.specs.Settings.{KeyRead, ExpressionValue}
+use Rattle.tk_keys.specs.Settings.{KeyRead, ExpressionValue, Standing, standing, Some_settings, A_key_list}
+use Rattle.tk_keys.specs.Settings.{Set, set_behind, runs, begins_at, dir_behind}
 use Rattle.tk_keys.specs.State.{State, situation_of}
 
 -- what a key leaves
@@ -65,6 +68,10 @@ situation_by font macros units =
 abbrev pub value_behind : ℤ → ℕ → ExpressionValue
 value_behind value units = record { value = value; units = units }
 
+-- what is behind a setting that gives a word the text of a number
+abbrev pub number_set : (ℤ → List ℕ) → ℕ → ℕ → ℤ → Situation → Unread → Set
+number_set written at word value s list = set_behind (with_text s word (tokens_of at (written value))) list
+
 -- a text that was paid for
 abbrev pub paid_by : List Tok → ℕ → PaidText
 paid_by text units = record { text = text; units = units }
@@ -72,3 +79,17 @@ paid_by text units = record { text = text; units = units }
 -- a key that runs for another
 abbrev pub runner_of : Runner → List ℕ × Run
 runner_of runner = (string_bytes runner.path, runner.run)
+
+-- where a run stands behind a key list, which the command of a setting gives
+abbrev pub keys_from : Given → Origin → ℕ → List Tok → Standing → Answer Standing
+keys_from given origin at list st = do
+  after ← runs given (A_key_list st.now (begins_at origin st.dir) list at)
+  Ok (standing after.now (dir_behind origin st.dir after.dir) st.list)
+
+-- where a run stands behind a group with those contents
+abbrev pub contents_run : Given → ℕ → List Tok → Standing → Answer Standing
+contents_run given at contents st = do
+  inside ← level at st.now.env
+  let list = unread contents (end_of at contents)
+  after ← runs given (Some_settings (standing (record st.now { env = inside }) st.dir list))
+  Ok (standing (with_paid st.now after.now.units) st.dir st.list)

@@ -4,6 +4,8 @@ ghost use Rattle.std.specs.Prelude.{◌≡◌, ◌+◌, ◌-◌, ◌≤◌, ◌<
 ghost use Rattle.std.specs.Prelude.{IfNone, Ok, Some, None, option_map, option_copied, unwrap_or, []};
 ghost use Rattle.tk_token.specs.Refusals.{Gives};
 ghost use Rattle.tk_token.specs.Texts as texts;
+ghost use Rattle.tk_store.specs.declared.Need.TheVariants.{Free};
+ghost use Rattle.tk_store.specs.declared.Run.TheVariants as runs;
 ghost use Rattle.tk_expand.specs.Expand.{Stream, full, stream};
 ghost use Rattle.tk_expand.specs.Texts.{texts_of};
 ghost use Rattle.tk_expand.specs.Unread.{unread};
@@ -126,16 +128,17 @@ impl State {
         expand_all(self.alloc, list, &self.store, &mut self.units)
     }
 
-    /// A native key sets where and how what follows is drawn.
+    /// A native key sets where and how what follows is drawn, and leaves nothing to be run.
     fn set_graphics(
         &mut self,
         at: u32,
         name: &str,
         key: Native,
         value: Option<&[Tok]>,
-    ) -> Result<(), Refusal>
+    ) -> Result<Deed, Refusal>
         ensures gives { Gives (λ _. self.new.graphics) result
             (graphics_by at evaluated self.old.font key name.now (option_copied value.entry) self.old.graphics) }
+        ensures text { IfOk result (λ deed. deed.text ≡ None) }
         ensures kept { self.new ≡ record self.old { graphics = self.new.graphics } }
     {
         graphics_set(
@@ -146,7 +149,8 @@ impl State {
             key,
             value,
             self.font,
-        )
+        )?;
+        Ok(done())
     }
 
     /// A native key, with the name by which it was asked: its value is expanded, and then it sets where and how what
@@ -165,16 +169,13 @@ impl State {
         ensures used { OnOk result (self.old.units ≤ self.new.units) }
     {
         let Some(list) = value else {
-            self.set_graphics(at, name, key, None)?;
-            return Ok(done());
+            return self.set_graphics(at, name, key, None);
         };
         if is_expanded(list, &self.store) {
-            self.set_graphics(at, name, key, Some(list))?;
-            return Ok(done());
+            return self.set_graphics(at, name, key, Some(list));
         }
         let list = self.expanded_list(at, list)?;
-        self.set_graphics(at, name, key, Some(&list))?;
-        Ok(done())
+        self.set_graphics(at, name, key, Some(&list))
     }
 
     /// What a run makes of a value, if it isn't a choice; the name is the one by which the key was asked.
@@ -300,14 +301,31 @@ impl State {
         let Some(entry) = self.store.get_key(path) else {
             return Ok(None);
         };
-        if let (Some(Run::Native(key)), Need::Free) = (&entry.run, &entry.need) {
-            let key = *key;
+        if let Some(key) = native_key(entry) {
             return Ok(Some(self.set_native(at, name_in(path), key, value)?));
         }
         let entry = entry.copy()?;
+        self.use_entry(at, path, &entry, value)
+    }
+
+    /// An entry takes a value, if it has a run or a stored value.
+    fn use_entry(
+        &mut self,
+        at: u32,
+        path: &str,
+        entry: &Entry,
+        value: Option<&[Tok]>,
+    ) -> Result<Option<Deed>, Refusal>
+        ensures gives { Gives (λ used. used_of used self.new) result
+            (keys.use_by (given_of evaluated self.old) at path.now entry.now entry.now.run entry.now.value
+            (option_copied value.entry) (situation_of self.old)) }
+        ensures none { IfOk result (λ used. IfNone used (self.new ≡ self.old)) }
+        ensures kept { OnOk result (Keeps self.old self.new) }
+        ensures used { OnOk result (self.old.units ≤ self.new.units) }
+    {
         match &entry.run {
-            Some(run) => Ok(Some(self.run_entry(at, path, &entry, run, value)?)),
-            None => self.store_value(at, path, &entry, value),
+            Some(run) => Ok(Some(self.run_entry(at, path, entry, run, value)?)),
+            None => self.store_value(at, path, entry, value),
         }
     }
 
@@ -368,6 +386,17 @@ fn expanded_text(
     let list = Vec::from_slice(alloc, list)?;
     let text = expand_all(alloc, list, store, units)?;
     Ok(text_into(memory, &text)?)
+}
+
+/// The native key that an entry runs, where it may have a value or none.
+fn native_key(entry: &Entry) -> Option<Native>
+    ensures run { IfSome result (λ key. entry.now.run ≡ Some (runs.Native key)) }
+    ensures need { IfSome result (λ key. entry.now.need ≡ Free) }
+{
+    match (&entry.run, &entry.need) {
+        (Some(Run::Native(key)), Need::Free) => Some(*key),
+        _ => None,
+    }
 }
 
 /// The value that a key takes where it is given that one, by its need.

@@ -1,6 +1,6 @@
 //! Default paths of keys.
 
-ghost use Rattle.std.specs.Prelude.{◌≡◌, ◌∷◌, ◌++◌, [], string_bytes, IfOk};
+ghost use Rattle.std.specs.Prelude.{◌≡◌, ◌∷◌, ◌++◌, [], string_bytes, codes, IfOk};
 ghost use Rattle.tk_characters.specs.Characters.{slash};
 
 use std::alloc::{AllocError, Global};
@@ -50,6 +50,15 @@ impl Dir {
     {
         Dir {
             path: DirPath::Root,
+        }
+    }
+
+    /// The path `/tikz`. This takes no memory.
+    pub(crate) fn tikz() -> Dir
+        ensures { result ≡ codes "/tikz" }
+    {
+        Dir {
+            path: DirPath::Tikz,
         }
     }
 

@@ -20,9 +20,16 @@ pub(crate) fn first_store(alloc: Global, also: u32) -> Result<Store, AllocError>
     ensures { IfOk result (λ store. IsFirstStore also store) }
 {
     let mut store = Store::new(alloc)?;
-    set_natives(alloc, &mut store, &NATIVES)?;
-    set_styles(alloc, &mut store, also, &STYLES)?;
+    set_initial(alloc, &mut store, also)?;
     Ok(store)
+}
+
+/// Sets the keys and styles that are there from the beginning.
+fn set_initial(alloc: Global, store: &mut Store, also: u32) -> Result<(), AllocError>
+    ensures { OnOk result (HasEntries store.old store.new (environment.initial_entries also)) }
+{
+    set_natives(alloc, store, &NATIVES)?;
+    set_styles(alloc, store, also, &STYLES)
 }
 
 /// Sets the keys of a table.

@@ -29,12 +29,11 @@ impl State {
             (A_key_list (situation_of self.old) (codes "/tikz") (texts.tokens_of at text.now) at)) }
         ensures kept { OnOk result (Keeps self.old self.new) }
     {
-        let dir = Dir::new(self.alloc, "/tikz")?;
         if self.lists < MOST_LISTS && self.run_unchanged(text) {
-            return Ok(dir);
+            return Ok(Dir::tikz());
         }
         let list = tokens_of(self.alloc, at, text)?;
-        self.run_list(dir, &list, at)
+        self.run_list(Dir::tikz(), &list, at)
     }
 
     /// Runs `draw`, `fill` or `draw,fill` without their tokens, where that is the text and they are the keys that are

@@ -2,15 +2,15 @@
 
 ghost use Rattle.std.specs.Prelude.{◌≡◌, ◌+◌, ◌-◌, ◌≤◌, ◌<◌, length, IfOk, OnOk, Ok, false, option_copied};
 ghost use Rattle.tk_token.specs.Refusals.{Gives};
-ghost use Rattle.tk_expand.specs.Unread.{unread};
+ghost use Rattle.tk_expand.specs.Unread.{Unread, unread};
 ghost use Rattle.tk_expr.specs.Evaluates.{Evaluation, IsEvaluation};
 ghost use Rattle.tk_expr.specs.Evaluated.{evaluated};
 ghost use Rattle.tk_keytext.specs.KeyParts.{key_part};
 ghost use Rattle.tk_keytext.specs.Parts.{parts_of};
-ghost use Rattle.tk_keys.specs.Environment as environment;
 ghost use Rattle.tk_keys.specs.Settings as settings;
-ghost use Rattle.tk_keys.specs.Settings.{A_key_list, Some_settings, one_setting, runs, begins_at, with_dir, setting_of};
-ghost use Rattle.tk_keys.specs.State.{given_of, situation_of, standing_of, ending_of, set_of, Keeps};
+ghost use Rattle.tk_keys.specs.Settings.{A_key_list, Some_settings, one_setting, runs, setting_of};
+ghost use Rattle.tk_keys.specs.State.{given_of, situation_of, standing_of, ending_of, set_of, Keeps, Pays};
+ghost use Rattle.tk_keys.specs.Views.{keys_from, contents_run};
 
 use crate::setting::{Origin, Setting};
 use crate::{Dir, State};
@@ -206,13 +206,31 @@ impl State {
             ≤ (self.old.budget - self.old.units) + length input.old.rest) }
     {
         let list = input.argument(at)?;
-        match origin {
-            Origin::Here => self.run_keys(dir, &list, at)?,
-            Origin::Root => self.run_keys(&mut Dir::root(), &list, at)?,
-            Origin::Tikz => self.run_keys(&mut Dir::new(self.alloc, "/tikz")?, &list, at)?,
-        }
+        self.run_keys_from(origin, dir, &list, at)?;
         input.keep(list);
         Ok(())
+    }
+
+    /// Runs a key list with the default path from which its command has it begin. The running default path stays, except
+    /// behind `\pgfkeysalso`.
+    #[cycle(run)]
+    fn run_keys_from(
+        &mut self,
+        origin: Origin,
+        dir: &mut Dir,
+        list: &[Tok],
+        at: u32,
+    ) -> Result<(), Refusal>
+        ensures gives { (rest : Unread) → Gives (λ _. standing_of self.new dir.new rest) result
+            (keys_from (given_of evaluated self.old) origin at list.now (standing_of self.old dir.old rest)) }
+        ensures kept { OnOk result (Keeps self.old self.new) }
+        ensures used { OnOk result (self.old.units ≤ self.new.units) }
+    {
+        match origin {
+            Origin::Here => self.run_keys(dir, list, at),
+            Origin::Root => self.run_keys(&mut Dir::root(), list, at),
+            Origin::Tikz => self.run_keys(&mut Dir::tikz(), list, at),
+        }
     }
 
     /// Runs a group, whose `{` was taken: only the units come back from it.
@@ -230,6 +248,17 @@ impl State {
         let Some(contents) = input.group()? else {
             return Err(Refusal::new(Code::NotASetting, at));
         };
+        self.run_inside(at, dir, contents)
+    }
+
+    /// Runs the contents of a group, which stands at a place, at a level of their own, with a copy of a default path.
+    #[cycle(run)]
+    fn run_inside(&mut self, at: u32, dir: &Dir, contents: Vec<Tok>) -> Result<(), Refusal>
+        ensures gives { (rest : Unread) → Gives (λ _. standing_of self.new dir.now rest) result
+            (contents_run (given_of evaluated self.old) at contents.items (standing_of self.old dir.now rest)) }
+        ensures pays { OnOk result (Pays self.old self.new) }
+        ensures used { OnOk result (self.old.units ≤ self.new.units) }
+    {
         self.open(at)?;
         let end = end_of(at, &contents);
         let mut inside = dir.copy()?;

@@ -1,9 +1,12 @@
 //! Settings that run nothing.
 
 ghost use Rattle.std.specs.Prelude.{◌≡◌, ◌+◌, ◌-◌, ◌≤◌, ◌<◌, length, string_bytes, IfOk, OnOk, Ok, Some, option_map};
+ghost use Rattle.std.specs.Prelude.{ℤ, List, ℕ};
 ghost use Rattle.std.specs.Prelude.{option_copied, unwrap_or};
 ghost use Rattle.std.specs.FinMap as map;
 ghost use Rattle.tk_num.specs.Text.{pointed_text};
+ghost use Rattle.tk_token.specs.declared.Code.TheVariants.{UnknownKey};
+ghost use Rattle.tk_token.specs.Answers.{or_fault};
 ghost use Rattle.tk_token.specs.Refusals.{Gives};
 ghost use Rattle.tk_expand.specs.Reading.{read};
 ghost use Rattle.tk_expr.specs.Evaluated.{evaluated};
@@ -12,7 +15,7 @@ ghost use Rattle.tk_keys.specs.Keys as keys;
 ghost use Rattle.tk_keys.specs.Settings as settings;
 ghost use Rattle.tk_keys.specs.Settings.{whole_text};
 ghost use Rattle.tk_keys.specs.State.{given_of, env_of, situation_of, behind_set, Keeps, Pays};
-ghost use Rattle.tk_keys.specs.Views.{key_of, value_behind, given_by, situation_by};
+ghost use Rattle.tk_keys.specs.Views.{key_of, number_set, value_behind, given_by, situation_by};
 
 use crate::keys::path_from;
 use crate::{Dir, State};
@@ -82,9 +85,19 @@ impl State {
     {
         let path = self.key_argument(at, dir, input)?;
         let text = input.argument(at)?;
-        let entry = self.with_value(&path, Body::from_vec(text)?)?;
-        self.set_entry(&path, entry)?;
+        self.store_text(&path, text)?;
         Ok(())
+    }
+
+    /// A text is the stored value of a key from there on.
+    fn store_text(&mut self, path: &str, text: Vec<Tok>) -> Result<(), AllocError>
+        ensures set { OnOk result (situation_of self.new
+            ≡ settings.with_value (situation_of self.old) path.now text.items) }
+        ensures kept { OnOk result (Keeps self.old self.new) }
+        ensures used { OnOk result (self.old.units ≤ self.new.units) }
+    {
+        let entry = self.with_value(path, Body::from_vec(text)?)?;
+        self.set_entry(path, entry)
     }
 
     /// The entry at a path, with that value.
@@ -113,24 +126,25 @@ impl State {
             ≤ (self.old.budget - self.old.units) + length input.old.rest) }
     {
         let path = self.key_argument(at, dir, input)?;
-        let Some(value) = self.stored_at(&path)? else {
-            return Err(Refusal::new(Code::UnknownKey, at));
-        };
+        let value = self.stored_at(at, &path)?;
         let word = word_argument(at, input)?;
         self.set_text(word, value)?;
         Ok(())
     }
 
     /// The value that is stored at a path.
-    fn stored_at(&self, path: &str) -> Result<Option<Body>, AllocError>
-        ensures { IfOk result (λ value. value ≡ settings.stored_at (env_of self.now) path.now) }
+    fn stored_at(&self, at: u32, path: &str) -> Result<Body, Refusal>
+        ensures { Gives (λ value. value) result
+            (or_fault (settings.stored_at (env_of self.now) path.now) UnknownKey at) }
     {
-        let Some(entry) = self.store.get_key(path) else {
-            return Ok(None);
-        };
-        match &entry.value {
-            Some(value) => Ok(Some(value.copy()?)),
-            None => Ok(None),
+        match self.store.get_key(path) {
+            Some(
+                Entry {
+                    value: Some(value),
+                    ..
+                },
+            ) => Ok(value.copy()?),
+            _ => Err(Refusal::new(Code::UnknownKey, at)),
         }
     }
 
@@ -151,6 +165,23 @@ impl State {
         )
     }
 
+    /// The two arguments of a setting that gives a word a number: the word, and the value of an expression.
+    fn word_and_number(&mut self, at: u32, input: &mut Input) -> Result<(u32, Scaled), Refusal>
+        ensures gives { (written : ℤ → List ℕ) → Gives
+            (λ found. number_set written at found.0 found.1 (situation_of self.new) input.new) result
+            (settings.set_number (given_of evaluated self.old) written at (situation_of self.old) input.old) }
+        ensures pays { Pays self.old self.new }
+        ensures used { OnOk result (self.old.units ≤ self.new.units) }
+        ensures end { OnOk result (input.new.end ≡ input.old.end) }
+        ensures work { OnOk result ((self.new.budget - self.new.units) + length input.new.rest
+            ≤ (self.old.budget - self.old.units) + length input.old.rest) }
+    {
+        let word = word_argument(at, input)?;
+        let text = input.argument(at)?;
+        let number = self.expression_value(at, text)?;
+        Ok((word, number))
+    }
+
     /// `\pgfmathsetmacro`: a word stands for the text of an expression's value, as TeX prints it.
     pub(crate) fn set_number(&mut self, at: u32, input: &mut Input) -> Result<(), Refusal>
         ensures gives { Gives (λ _. behind_set self.new input.new) result
@@ -161,9 +192,7 @@ impl State {
         ensures work { OnOk result ((self.new.budget - self.new.units) + length input.new.rest
             ≤ (self.old.budget - self.old.units) + length input.old.rest) }
     {
-        let word = word_argument(at, input)?;
-        let text = input.argument(at)?;
-        let number = self.expression_value(at, text)?;
+        let (word, number) = self.word_and_number(at, input)?;
         self.set_written(at, word, &print_tex(number.sp()))?;
         Ok(())
     }
@@ -178,9 +207,7 @@ impl State {
         ensures work { OnOk result ((self.new.budget - self.new.units) + length input.new.rest
             ≤ (self.old.budget - self.old.units) + length input.old.rest) }
     {
-        let word = word_argument(at, input)?;
-        let text = input.argument(at)?;
-        let number = self.expression_value(at, text)?;
+        let (word, number) = self.word_and_number(at, input)?;
         self.set_written(at, word, &print(number.sp() / 65_536 * 65_536))?;
         Ok(())
     }

@@ -1,7 +1,8 @@
 //! The state of a run.
 
-ghost use Rattle.std.specs.Prelude.{◌≡◌, ℕ, [], ◌∷◌, ◌+◌, ◌-◌, ◌<◌, ◌≤◌, length, IfNone, option_to_list, IfOk, OnOk};
+ghost use Rattle.std.specs.Prelude.{◌≡◌, ℕ, [], ◌∷◌, ◌++◌, ◌+◌, ◌-◌, ◌<◌, ◌≤◌, length, IfNone, option_to_list, IfOk, OnOk};
 ghost use Rattle.std.specs.Prelude.{OnErr, MatchResult, Ok, Err};
+ghost use Rattle.std.specs.Vec.{vec_capacity};
 ghost use Rattle.tk_token.specs.Refusals.{Gives};
 ghost use Rattle.tk_store.specs.Levels.{opened};
 ghost use Rattle.tk_token.specs.Kinds.{is_char};
@@ -101,6 +102,7 @@ impl State {
     {
         let mut names = names;
         let made = make_words(&mut names)?;
+        let saved = Vec::with_capacity(alloc, MOST_LEVELS)?;
         Ok(State {
             alloc,
             names,
@@ -108,7 +110,7 @@ impl State {
             font,
             store: first_store(alloc, made.also)?,
             graphics: GraphicsState::initial(font),
-            saved: Vec::with_capacity(alloc, MOST_LEVELS)?,
+            saved,
             lists: 0,
             units: Units { used: 0, budget },
             spare: String::new(alloc),
@@ -248,9 +250,7 @@ impl State {
         ensures high { steps.new ≤ steps.old + self.old.levels.top.settings }
     {
         self.store.close(steps);
-        if let Some(graphics) = self.saved.pop() {
-            self.graphics = graphics;
-        }
+        put_back(&mut self.saved, &mut self.graphics);
     }
 
     /// Closes the last level and counts no steps. This takes no memory.
@@ -265,9 +265,7 @@ impl State {
         } }
     {
         self.store.close_uncounted();
-        if let Some(graphics) = self.saved.pop() {
-            self.graphics = graphics;
-        }
+        put_back(&mut self.saved, &mut self.graphics);
     }
 
     /// Sets whether what follows is drawn and filled. This takes no memory.
@@ -290,6 +288,17 @@ impl State {
         ensures { result.now ≡ self.now.graphics }
     {
         &self.graphics
+    }
+}
+
+/// The last of the saved ones is again where and how what follows is drawn.
+fn put_back(saved: &mut Vec<GraphicsState>, graphics: &mut GraphicsState)
+    requires { 0 < length saved.old.items }
+    ensures items { saved.old.items ≡ saved.new.items ++ graphics.new ∷ [] }
+    ensures capacity { vec_capacity saved.new ≡ vec_capacity saved.old }
+{
+    if let Some(last) = saved.pop() {
+        *graphics = last;
     }
 }
 

@@ -1,9 +1,12 @@
-use Rattle.std.proofs.Common.{List, length, ap, ◌∙◌, arith}
+use Rattle.std.proofs.Common.{List, length, Ok, ap, sym, ◌∙◌, arith}
 use Rattle.tk_token.specs.declared.Tok.{Tok}
 use Rattle.std.proofs.lemmas.Result.{err_from_is_err_and}
 use Rattle.tk_token.proofs.Answering.{fails_as}
+use Rattle.tk_expand.specs.Unread.{Unread}
 use Rattle.tk_keytext.specs.KeyParts.{key_part}
+use Rattle.tk_keys.specs.State.{standing_of}
 use Rattle.tk_keys.proofs.Loops.{keeps_then, pays_keeps, next_fails, text_ends, text_goes_on, set_fails, parts_go_on, part_fails, parts_end}
+use Rattle.tk_keys.proofs.Loops.{given_at, keys_taken, group_taken}
 use Rattle.tk_keys.proofs.Loops.{text_paid}
 use Rattle.tk_keys.proofs.state.State.+run.Goals as goal
 
@@ -77,3 +80,28 @@ run_text-returns-clause-gives t c =
     let m = c.in_ok-first.ensures in
     k.told ∙ text_ends c.args.self.now c.loop-input.self k.kept c.loop-input.dir c.loop-input.input c.next.new.self m.pays c.next.new.input
     (rw c.in_default.is at m.gives)
+
+pub set_keys-returns-in_err-run_keys_from-clause-gives : goal.set_keys-returns-in_err-run_keys_from-clause-gives
+set_keys-returns-in_err-run_keys_from-clause-gives t c =
+    let p = err_from_is_err_and c.from_residual-in_err-run_keys_from.result c.from_residual-in_err-run_keys_from.ensures.1 in
+    let a = c.args in
+    let behind = c.argument.new.self in
+    rw (p.1, p.2) (fails_as c.in_err-run_keys_from.field-0.0 _ _ (keys_taken (given_at a.self.now) a.at (standing_of a.self.now a.dir.now a.input.now)
+    c.in_ok-list.list.items behind c.in_ok-list.ensures.end a.origin c.in_ok-list.ensures.gives)
+    (rw c.deref.ensures.value at (c.in_err-run_keys_from.ensures.gives behind)))
+
+pub set_keys-returns-clause-gives : goal.set_keys-returns-clause-gives
+set_keys-returns-clause-gives t c =
+    let a = c.args in
+    let behind = c.argument.new.self in
+    keys_taken (given_at a.self.now) a.at (standing_of a.self.now a.dir.now a.input.now) c.in_ok-list.list.items behind c.in_ok-list.ensures.end
+    a.origin c.in_ok-list.ensures.gives
+    ∙ rw c.deref.ensures.value at (c.in_ok-run_keys_from.ensures.gives behind)
+    ∙ ap (λ (list : Unread). Ok (standing_of c.run_keys_from.new.self c.run_keys_from.new.dir list)) (sym c.keep.ensures)
+
+pub group-returns-clause-gives : goal.group-returns-clause-gives
+group-returns-clause-gives t c =
+    let a = c.args in
+    let behind = c.group.new.self in
+    rw (group_taken (given_at a.self.now) a.at (standing_of a.self.now a.dir.now a.input.now) c.in-Some.contents.items behind c.in_ok-contents.ensures.end
+    (rw c.in-Some.is at c.in_ok-contents.ensures.gives)) (c.run_inside.ensures.gives behind)

@@ -9,28 +9,34 @@ abbrev left : State → ℕ
 left s = s.budget - s.units
 
 abbrev pub decreases-run_keys : goal.decreases-run_keys
-decreases-run_keys l = 6 * (left l.self.now + length l.list.now) + 3
+decreases-run_keys l = 7 * (left l.self.now + length l.list.now) + 3
+
+abbrev pub decreases-run_keys_from : goal.decreases-run_keys_from
+decreases-run_keys_from l = 7 * (left l.self.now + length l.list.now) + 4
 
 abbrev pub decreases-run_parts : goal.decreases-run_parts
-decreases-run_parts l = 6 * (left l.self.now + length l.list.now) + 2
+decreases-run_parts l = 7 * (left l.self.now + length l.list.now) + 2
 
 abbrev pub decreases-run_part : goal.decreases-run_part
-decreases-run_part l = 6 * left l.self.now + 1
+decreases-run_part l = 7 * left l.self.now + 1
 
 abbrev pub decreases-run_text : goal.decreases-run_text
-decreases-run_text l = 6 * (left l.self.now + length l.text) + 1
+decreases-run_text l = 7 * (left l.self.now + length l.text) + 1
+
+abbrev pub decreases-run_inside : goal.decreases-run_inside
+decreases-run_inside l = 7 * (left l.self.now + length l.contents.items) + 2
 
 abbrev pub decreases-set_or_group : goal.decreases-set_or_group
-decreases-set_or_group l = 6 * (left l.self.now + length l.input.now.rest) + 6
+decreases-set_or_group l = 7 * (left l.self.now + length l.input.now.rest) + 7
 
 abbrev pub decreases-set : goal.decreases-set
-decreases-set l = 6 * (left l.self.now + length l.input.now.rest) + 5
+decreases-set l = 7 * (left l.self.now + length l.input.now.rest) + 6
 
 abbrev pub decreases-set_keys : goal.decreases-set_keys
-decreases-set_keys l = 6 * (left l.self.now + length l.input.now.rest) + 4
+decreases-set_keys l = 7 * (left l.self.now + length l.input.now.rest) + 5
 
 abbrev pub decreases-group : goal.decreases-group
-decreases-group l = 6 * (left l.self.now + length l.input.now.rest) + 4
+decreases-group l = 7 * (left l.self.now + length l.input.now.rest) + 5
 
 abbrev pub invariant-run_text-loop-input : goal.invariant-run_text-loop-input
 invariant-run_text-loop-input l = record {
