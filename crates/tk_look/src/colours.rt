@@ -1,38 +1,54 @@
 //! Colours by their texts.
 
-ghost use Rattle.std.specs.Prelude.{◌≡◌, ◌≤◌, ◌<◌, ◌∷◌, length, option_copied, IfSome, MatchOption, None};
+ghost use Rattle.std.specs.Prelude.{◌≡◌, ◌≤◌, ◌<◌, ◌∷◌, length, map, option_copied, IfSome, MatchOption, None};
+ghost use Rattle.std.specs.Map.{lookup};
+ghost use Rattle.std.specs.Str.{bytes_eq};
 ghost use Rattle.tk_look.specs.Colours as spec;
 ghost use Rattle.tk_look.specs.Pieces.{pieces_behind};
 
 use tk_item::Rgb;
 use tk_num::read_decimal;
 
+/// The colours that have a name.
+static COLOURS: [(&str, Rgb); 19] = [
+    ("red", Rgb { r: 255, g: 0, b: 0 }),
+    ("green", Rgb { r: 0, g: 255, b: 0 }),
+    ("blue", Rgb { r: 0, g: 0, b: 255 }),
+    ("cyan", Rgb { r: 0, g: 255, b: 255 }),
+    ("magenta", Rgb { r: 255, g: 0, b: 255 }),
+    ("yellow", Rgb { r: 255, g: 255, b: 0 }),
+    ("black", Rgb { r: 0, g: 0, b: 0 }),
+    ("white", Rgb { r: 255, g: 255, b: 255 }),
+    ("gray", Rgb { r: 128, g: 128, b: 128 }),
+    ("darkgray", Rgb { r: 64, g: 64, b: 64 }),
+    ("lightgray", Rgb { r: 191, g: 191, b: 191 }),
+    ("brown", Rgb { r: 191, g: 128, b: 64 }),
+    ("lime", Rgb { r: 191, g: 255, b: 0 }),
+    ("olive", Rgb { r: 128, g: 128, b: 0 }),
+    ("orange", Rgb { r: 255, g: 128, b: 0 }),
+    ("pink", Rgb { r: 255, g: 191, b: 191 }),
+    ("purple", Rgb { r: 191, g: 0, b: 64 }),
+    ("teal", Rgb { r: 0, g: 128, b: 128 }),
+    ("violet", Rgb { r: 128, g: 0, b: 128 }),
+];
+
+/// The colour that has that name in a table.
+fn colour_among(table: &[(&str, Rgb)], name: &str) -> Option<Rgb>
+    ensures { result ≡ lookup (bytes_eq name.now) (map (λ row. (row.0.now, row.1)) table.now) }
+{
+    for (text, colour) in table {
+        if name == *text {
+            return Some(*colour);
+        }
+    }
+    None
+}
+
 /// The colour of that name.
 fn colour_named(name: &str) -> Option<Rgb>
     ensures { result ≡ spec.colour_named name.now }
 {
-    match name {
-        "red" => Some(rgb(255, 0, 0)),
-        "green" => Some(rgb(0, 255, 0)),
-        "blue" => Some(rgb(0, 0, 255)),
-        "cyan" => Some(rgb(0, 255, 255)),
-        "magenta" => Some(rgb(255, 0, 255)),
-        "yellow" => Some(rgb(255, 255, 0)),
-        "black" => Some(rgb(0, 0, 0)),
-        "white" => Some(rgb(255, 255, 255)),
-        "gray" => Some(rgb(128, 128, 128)),
-        "darkgray" => Some(rgb(64, 64, 64)),
-        "lightgray" => Some(rgb(191, 191, 191)),
-        "brown" => Some(rgb(191, 128, 64)),
-        "lime" => Some(rgb(191, 255, 0)),
-        "olive" => Some(rgb(128, 128, 0)),
-        "orange" => Some(rgb(255, 128, 0)),
-        "pink" => Some(rgb(255, 191, 191)),
-        "purple" => Some(rgb(191, 0, 64)),
-        "teal" => Some(rgb(0, 128, 128)),
-        "violet" => Some(rgb(128, 0, 128)),
-        _ => None,
-    }
+    colour_among(&COLOURS, name)
 }
 
 fn rgb(r: u8, g: u8, b: u8) -> Rgb
