@@ -9,36 +9,37 @@ ghost use Rattle.tk_look.specs.Pieces.{pieces_behind};
 use tk_item::Rgb;
 use tk_num::read_decimal;
 
-/// The colours that have a name.
-static COLOURS: [(&str, Rgb); 19] = [
-    ("red", Rgb { r: 255, g: 0, b: 0 }),
-    ("green", Rgb { r: 0, g: 255, b: 0 }),
-    ("blue", Rgb { r: 0, g: 0, b: 255 }),
-    ("cyan", Rgb { r: 0, g: 255, b: 255 }),
-    ("magenta", Rgb { r: 255, g: 0, b: 255 }),
-    ("yellow", Rgb { r: 255, g: 255, b: 0 }),
-    ("black", Rgb { r: 0, g: 0, b: 0 }),
-    ("white", Rgb { r: 255, g: 255, b: 255 }),
-    ("gray", Rgb { r: 128, g: 128, b: 128 }),
-    ("darkgray", Rgb { r: 64, g: 64, b: 64 }),
-    ("lightgray", Rgb { r: 191, g: 191, b: 191 }),
-    ("brown", Rgb { r: 191, g: 128, b: 64 }),
-    ("lime", Rgb { r: 191, g: 255, b: 0 }),
-    ("olive", Rgb { r: 128, g: 128, b: 0 }),
-    ("orange", Rgb { r: 255, g: 128, b: 0 }),
-    ("pink", Rgb { r: 255, g: 191, b: 191 }),
-    ("purple", Rgb { r: 191, g: 0, b: 64 }),
-    ("teal", Rgb { r: 0, g: 128, b: 128 }),
-    ("violet", Rgb { r: 128, g: 0, b: 128 }),
+/// The colours that have a name, by red, green and blue.
+static COLOURS: [(&str, u8, u8, u8); 19] = [
+    ("red", 255, 0, 0),
+    ("green", 0, 255, 0),
+    ("blue", 0, 0, 255),
+    ("cyan", 0, 255, 255),
+    ("magenta", 255, 0, 255),
+    ("yellow", 255, 255, 0),
+    ("black", 0, 0, 0),
+    ("white", 255, 255, 255),
+    ("gray", 128, 128, 128),
+    ("darkgray", 64, 64, 64),
+    ("lightgray", 191, 191, 191),
+    ("brown", 191, 128, 64),
+    ("lime", 191, 255, 0),
+    ("olive", 128, 128, 0),
+    ("orange", 255, 128, 0),
+    ("pink", 255, 191, 191),
+    ("purple", 191, 0, 64),
+    ("teal", 0, 128, 128),
+    ("violet", 128, 0, 128),
 ];
 
 /// The colour that has that name in a table.
-fn colour_among(table: &[(&str, Rgb)], name: &str) -> Option<Rgb>
-    ensures { result ≡ lookup (bytes_eq name.now) (map (λ row. (row.0.now, row.1)) table.now) }
+fn colour_among(table: &[(&str, u8, u8, u8)], name: &str) -> Option<Rgb>
+    ensures { result ≡ lookup (bytes_eq name.now)
+        (map (λ row. (row.0.now, spec.rgb row.1 row.2 row.3)) table.now) }
 {
-    for (text, colour) in table {
+    for (text, r, g, b) in table {
         if name == *text {
-            return Some(*colour);
+            return Some(rgb(*r, *g, *b));
         }
     }
     None
