@@ -22,4 +22,5 @@ pub mod ShortWay
 pub mod SignRuns
 pub mod Stacks
 pub mod Stepping
+pub mod Tables
 pub mod Trees
