@@ -20,6 +20,7 @@ pub mod Roots
 pub mod Runs
 pub mod ShortWay
 pub mod SignRuns
+pub mod SignedNumbers
 pub mod Stacks
 pub mod Stepping
 pub mod Tables
