@@ -20,6 +20,8 @@ pub mod Roots
 pub mod Runs
 pub mod ShortWay
 pub mod SignRuns
+pub mod SignedNumbers
 pub mod Stacks
 pub mod Stepping
+pub mod Tables
 pub mod Trees

@@ -136,51 +136,56 @@ fn single_mark(kind: Kind) -> Mark
     }
 }
 
+/// What runs of letters are: the units, `r` and `pi`, and the names of functions.
+static WORDS: [(&str, Mark); 28] = [
+    ("pt", Mark::Measure(Unit::Pt)),
+    ("pc", Mark::Measure(Unit::Pc)),
+    ("in", Mark::Measure(Unit::In)),
+    ("bp", Mark::Measure(Unit::Bp)),
+    ("cm", Mark::Measure(Unit::Cm)),
+    ("mm", Mark::Measure(Unit::Mm)),
+    ("dd", Mark::Measure(Unit::Dd)),
+    ("cc", Mark::Measure(Unit::Cc)),
+    ("sp", Mark::Measure(Unit::Sp)),
+    ("em", Mark::Measure(Unit::Em)),
+    ("ex", Mark::Measure(Unit::Ex)),
+    ("r", Mark::Radian),
+    ("pi", Mark::Pi),
+    ("sin", Mark::Single(One::Sin)),
+    ("cos", Mark::Single(One::Cos)),
+    ("tan", Mark::Single(One::Tan)),
+    ("sqrt", Mark::Single(One::Sqrt)),
+    ("abs", Mark::Single(One::Abs)),
+    ("sign", Mark::Single(One::Sign)),
+    ("floor", Mark::Single(One::Floor)),
+    ("ceil", Mark::Single(One::Ceil)),
+    ("round", Mark::Single(One::Round)),
+    ("int", Mark::Single(One::Int)),
+    ("mod", Mark::Double(Two::Mod)),
+    ("pow", Mark::Double(Two::Pow)),
+    ("veclen", Mark::Double(Two::Veclen)),
+    ("min", Mark::Several(Most::Min)),
+    ("max", Mark::Several(Most::Max)),
+];
+
+/// What a run of letters is by a table, or just a word.
+fn mark_in(table: &[(&str, Mark)], word: &str) -> Mark
+    ensures { result ≡ spec.mark_in (map (λ row. record { text = row.0.now; mark = row.1 }) table.now) word.now }
+{
+    for (text, mark) in table {
+        if word == *text {
+            return *mark;
+        }
+    }
+    Mark::Word
+}
+
 /// What a run of letters is.
 #[tactic(auto, unfolding(crate::specs::Pieces::word_mark))]
 fn word_mark(word: &str) -> Mark
     ensures { result ≡ spec.word_mark word.now }
 {
-    match word {
-        "pt" => Mark::Measure(Unit::Pt),
-        "pc" => Mark::Measure(Unit::Pc),
-        "in" => Mark::Measure(Unit::In),
-        "bp" => Mark::Measure(Unit::Bp),
-        "cm" => Mark::Measure(Unit::Cm),
-        "mm" => Mark::Measure(Unit::Mm),
-        "dd" => Mark::Measure(Unit::Dd),
-        "cc" => Mark::Measure(Unit::Cc),
-        "sp" => Mark::Measure(Unit::Sp),
-        "em" => Mark::Measure(Unit::Em),
-        "ex" => Mark::Measure(Unit::Ex),
-        "r" => Mark::Radian,
-        "pi" => Mark::Pi,
-        _ => function_mark(word),
-    }
-}
-
-/// What a run of letters is that is no unit, `r` or `pi`.
-fn function_mark(word: &str) -> Mark
-    ensures { result ≡ spec.mark_in spec.functions word.now }
-{
-    match word {
-        "sin" => Mark::Single(One::Sin),
-        "cos" => Mark::Single(One::Cos),
-        "tan" => Mark::Single(One::Tan),
-        "sqrt" => Mark::Single(One::Sqrt),
-        "abs" => Mark::Single(One::Abs),
-        "sign" => Mark::Single(One::Sign),
-        "floor" => Mark::Single(One::Floor),
-        "ceil" => Mark::Single(One::Ceil),
-        "round" => Mark::Single(One::Round),
-        "int" => Mark::Single(One::Int),
-        "mod" => Mark::Double(Two::Mod),
-        "pow" => Mark::Double(Two::Pow),
-        "veclen" => Mark::Double(Two::Veclen),
-        "min" => Mark::Several(Most::Min),
-        "max" => Mark::Several(Most::Max),
-        _ => Mark::Word,
-    }
+    mark_in(&WORDS, word)
 }
 
 /// Whether a token is an ASCII letter.

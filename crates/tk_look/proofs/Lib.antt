@@ -3,3 +3,4 @@ pub mod Evaluations
 pub mod Parentheses
 pub mod Places
 pub mod Splitting
+pub mod Tables

@@ -1,38 +1,55 @@
 //! Colours by their texts.
 
-ghost use Rattle.std.specs.Prelude.{◌≡◌, ◌≤◌, ◌<◌, ◌∷◌, length, option_copied, IfSome, MatchOption, None};
+ghost use Rattle.std.specs.Prelude.{◌≡◌, ◌≤◌, ◌<◌, ◌∷◌, length, map, option_copied, IfSome, MatchOption, None};
+ghost use Rattle.std.specs.Map.{lookup};
+ghost use Rattle.std.specs.Str.{bytes_eq};
 ghost use Rattle.tk_look.specs.Colours as spec;
 ghost use Rattle.tk_look.specs.Pieces.{pieces_behind};
 
 use tk_item::Rgb;
 use tk_num::read_decimal;
 
+/// The colours that have a name, by red, green and blue.
+static COLOURS: [(&str, u8, u8, u8); 19] = [
+    ("red", 255, 0, 0),
+    ("green", 0, 255, 0),
+    ("blue", 0, 0, 255),
+    ("cyan", 0, 255, 255),
+    ("magenta", 255, 0, 255),
+    ("yellow", 255, 255, 0),
+    ("black", 0, 0, 0),
+    ("white", 255, 255, 255),
+    ("gray", 128, 128, 128),
+    ("darkgray", 64, 64, 64),
+    ("lightgray", 191, 191, 191),
+    ("brown", 191, 128, 64),
+    ("lime", 191, 255, 0),
+    ("olive", 128, 128, 0),
+    ("orange", 255, 128, 0),
+    ("pink", 255, 191, 191),
+    ("purple", 191, 0, 64),
+    ("teal", 0, 128, 128),
+    ("violet", 128, 0, 128),
+];
+
+/// The colour that has that name in a table.
+fn colour_among(table: &[(&str, u8, u8, u8)], name: &str) -> Option<Rgb>
+    ensures { result ≡ lookup (bytes_eq name.now)
+        (map (λ row. (row.0.now, spec.rgb row.1 row.2 row.3)) table.now) }
+{
+    for (text, r, g, b) in table {
+        if name == *text {
+            return Some(rgb(*r, *g, *b));
+        }
+    }
+    None
+}
+
 /// The colour of that name.
 fn colour_named(name: &str) -> Option<Rgb>
     ensures { result ≡ spec.colour_named name.now }
 {
-    match name {
-        "red" => Some(rgb(255, 0, 0)),
-        "green" => Some(rgb(0, 255, 0)),
-        "blue" => Some(rgb(0, 0, 255)),
-        "cyan" => Some(rgb(0, 255, 255)),
-        "magenta" => Some(rgb(255, 0, 255)),
-        "yellow" => Some(rgb(255, 255, 0)),
-        "black" => Some(rgb(0, 0, 0)),
-        "white" => Some(rgb(255, 255, 255)),
-        "gray" => Some(rgb(128, 128, 128)),
-        "darkgray" => Some(rgb(64, 64, 64)),
-        "lightgray" => Some(rgb(191, 191, 191)),
-        "brown" => Some(rgb(191, 128, 64)),
-        "lime" => Some(rgb(191, 255, 0)),
-        "olive" => Some(rgb(128, 128, 0)),
-        "orange" => Some(rgb(255, 128, 0)),
-        "pink" => Some(rgb(255, 191, 191)),
-        "purple" => Some(rgb(191, 0, 64)),
-        "teal" => Some(rgb(0, 128, 128)),
-        "violet" => Some(rgb(128, 0, 128)),
-        _ => None,
-    }
+    colour_among(&COLOURS, name)
 }
 
 fn rgb(r: u8, g: u8, b: u8) -> Rgb

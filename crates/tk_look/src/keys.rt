@@ -226,20 +226,18 @@ impl Look {
     }
 
     /// A key that isn't known: its own name is a colour or a shape, and it has no value.
-    fn set_by_own_name(&mut self, name: &str, value: Option<&[Tok]>, at: u32) -> Result<(), Fault>
-        ensures { MatchResult result
-            (λ _. spec.by_own_name at name.now (option_copied value.entry) self.old ≡ Ok self.new)
-            (λ fault. spec.by_own_name at name.now (option_copied value.entry) self.old ≡ Err fault) }
+    fn set_by_own_name(&mut self, name: &str, value: Option<&[Tok]>, at: u32) -> Result<(), Refusal>
+        ensures { Gives (λ _. self.new) result (spec.by_own_name at name.now (option_copied value.entry) self.old) }
     {
         if value.is_some() {
-            return Err(Fault::new(Code::UnknownKey, at));
+            return Err(Refusal::new(Code::UnknownKey, at));
         }
         if let Some(colour) = colour(name) {
             self.set_colour(ColourKey::Color, colour);
             return Ok(());
         }
         let Some(shape) = shape_named(name) else {
-            return Err(Fault::new(Code::UnknownKey, at));
+            return Err(Refusal::new(Code::UnknownKey, at));
         };
         self.shape = shape;
         Ok(())
@@ -261,7 +259,7 @@ impl Look {
     {
         match key {
             LookKey::Colour(key) => self.set_colour(key, colour_value(alloc, value, at)?),
-            LookKey::Paint(key) => self.paint(alloc, key, value, at)?,
+            LookKey::Paint(key) => return self.paint(alloc, key, value, at),
             LookKey::Length(key) => self.set_length(key, number_value(value, font, at)?),
             LookKey::Angle(key) => self.set_angle(key, number_value(value, font, at)?),
             LookKey::Measure(key) => self.set_measure(key, measure_value(value, font, at)?),
@@ -274,8 +272,8 @@ impl Look {
             LookKey::Shape => self.shape = shape_value(alloc, value, at)?,
             LookKey::Anchor => self.anchor = anchor_value(alloc, value, font, at)?,
             LookKey::Pos => self.pos = Some(position_value(value, font, at)?),
-            LookKey::Name => self.set_name(alloc, value, at)?,
-            LookKey::Unknown => self.set_by_own_name(name, value, at)?,
+            LookKey::Name => return self.set_name(alloc, value, at),
+            LookKey::Unknown => return self.set_by_own_name(name, value, at),
         }
         Ok(())
     }

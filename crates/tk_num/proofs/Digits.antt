@@ -1,15 +1,16 @@
 -- Digits read one after another.
-use Rattle.std.proofs.Common.{◌≡◌, ℕ, ◌+◌, ◌-◌, ◌*◌, ◌^◌, ◌<◌, ◌≤◌, Bool, true, List, length, get_or, take, Some, None, ap, ◌∙◌, arith}
+use Rattle.std.proofs.Common.{◌≡◌, ℕ, ◌+◌, ◌-◌, ◌*◌, ◌^◌, ◌<◌, ◌≤◌, Bool, true, List, length, get_or, take, Some, None, ap, ◌∙◌, arith, min, length-take}
 use Rattle.std.specs.List.{list_all, position, position_or_len}
 use Rattle.std.specs.Char.{is_ascii_digit, digit_value}
 use Rattle.std.specs.Str.Parse.{digits_value}
-use Rattle.std.proofs.Math.Nat.{pow-le-pow_right}
+use Rattle.std.proofs.Math.Nat.{pow-le-pow_right, div-lt_iff_lt-mul}
 use Rattle.std.proofs.lemmas.Grind.{pow_more}
 use Rattle.std.proofs.lemmas.Int.Digits.{digits_value_more}
 use Rattle.std.proofs.lemmas.Str.Parse.{digits_value-take-le}
 use Rattle.std.proofs.lemmas.List.Folds.{list_all_at, list_all_more}
 use Rattle.std.proofs.lemmas.Bool.Decides.{nat_tests}
 use Rattle.std.proofs.lemmas.Bool.{true_from_ne_false}
+use Rattle.tk_num.specs.Number.{nearest_65536th}
 
 pub digit_bounds : (c : ℕ) → is_ascii_digit c ≡ true → (48 ≤ c) × (c ≤ 57)
 digit_bounds c e = grind (arith, nat_tests)
@@ -49,3 +50,14 @@ all_more ds i lt all d = rw (list_all_more is_ascii_digit ds i 0 lt) (rw all d)
 
 pub bounds_at : (ds : List ℕ) (i : ℕ) → list_all is_ascii_digit ds ≡ true → i < length ds → (48 ≤ get_or ds i 0) × (get_or ds i 0 ≤ 57)
 bounds_at ds i all lt = digit_bounds (get_or ds i 0) (digit_at ds i all lt)
+
+-- the first digits are as many as were asked for
+pub length_of_first : (n most : ℕ) (ds : List ℕ) → n ≡ min (length ds) most → length (take n ds) ≡ n
+length_of_first n most ds e = omega (arith, length-take n ds)
+
+-- a fraction is at most one
+pub nearest_is_small : (n m : ℕ) → m < 10 ^ n → nearest_65536th n m ≤ 65536
+nearest_is_small n m lt =
+    let some : 0 < 2 * 10 ^ n = omega arith in
+    let below : nearest_65536th n m < 65537 = (div-lt_iff_lt-mul {k = 2 * 10 ^ n} {x = 131072 * m + 10 ^ n} {y = 65537} some).1 (omega arith) in
+    omega (arith, below)

@@ -1,8 +1,8 @@
-use Rattle.std.proofs.Common.{◌≡◌, ◌≤◌, ◌∙◌, ap, subst, arith, pos, ℤ, unsigned_abs, ◌+ℤ◌, ◌*ℤ◌, int_div}
+use Rattle.std.proofs.Common.{◌≡◌, ◌≤◌, ◌∙◌, ap, subst, sym, arith, pos, ℤ, unsigned_abs, ◌+ℤ◌, ◌*ℤ◌, int_div}
 use Rattle.std.specs.Int.{w64}
 use Rattle.std.proofs.lemmas.Int.{to_z-of_z, ints}
 use Rattle.tk_num.proofs.Carry.{font_length}
-use Rattle.tk_num.proofs.Wrap.{wrapped_mul, wrapped_add, product_small, sum_fits, fits_signed_64}
+use Rattle.tk_num.proofs.Wrap.{wrapped_mul, wrapped_product_fits, wrapped_add, product_small, sum_fits, fits_signed_64}
 use Rattle.tk_num.specs.Number.{IsWhole, IsFraction}
 use Rattle.tk_num.proofs.unit.in_font_unit.Goals as goal
 
@@ -19,6 +19,18 @@ cut_small c =
     (wrapped_mul c.args.frac c.sp-2.result part c.sp-2.ensures.range) c.cut.ensures.small in
     let small = product_small c.args.frac c.sp-2.result part c.sp-2.ensures.range in
     omega (arith, most, small)
+
+pub overflow_mul-result : goal.overflow_mul-result
+overflow_mul-result c = wrapped_product_fits c.args.whole c.sp.result (whole_small c.args.whole c.requires.whole) c.sp.ensures.range
+
+pub overflow_mul-frac : goal.overflow_mul-frac
+overflow_mul-frac c = wrapped_product_fits c.args.frac c.sp-2.result (part_small c.args.frac c.requires.frac) c.sp-2.ensures.range
+
+pub cut-requires-clause-small : goal.cut-requires-clause-small
+cut-requires-clause-small c =
+    let part = part_small c.args.frac c.requires.frac in
+    let small = product_small c.args.frac c.sp-2.result part c.sp-2.ensures.range in
+    subst (λ z. unsigned_abs z ≤ 4611686018427387904) (sym (wrapped_mul c.args.frac c.sp-2.result part c.sp-2.ensures.range)) (omega (arith, small))
 
 pub overflow_add-result : goal.overflow_add-result
 overflow_add-result c =
