@@ -146,10 +146,11 @@ fn keep(saved: &mut Vec<Saved>, levels: usize, replaced: Saved)
     requires { vec_len saved.old < vec_capacity saved.old }
     ensures { saved.new.items ≡ (if nat_eq levels 0 then saved.old.items else saved.old.items ++ replaced ∷ []) }
 {
-    if levels == 0 {
-        return;
+    if levels > 0 {
+        saved.push_reserved(replaced);
+    } else {
+        drop(replaced);
     }
-    saved.push_reserved(replaced);
 }
 
 /// Undoes settings, the newest first, until no more than so many are left.
