@@ -1,7 +1,8 @@
 -- A store's levels after each of its calls. A level further out is what is left once all later settings are undone, so a
 -- setting leaves it where what it replaced undoes it (`levels_set`), `open` only marks where it is (`open_is`), and `close`
 -- undoes one setting after the other (`one_undone`) until the mark is reached (`close_is`).
-use Rattle.std.proofs.Common.{◌≡◌, ℕ, suc, ◌+◌, ◌-◌, ◌≤◌, List, [], ◌∷◌, ◌++◌, length, take, drop, refl, sym, ap, subst, ◌∙◌, arith}
+use Rattle.std.proofs.Common.{◌≡◌, ℕ, suc, ◌+◌, ◌-◌, ◌≤◌, Bool, true, false, List, [], ◌∷◌, ◌++◌, length, take, drop, refl, sym, ap, subst, ◌∙◌, arith}
+use Rattle.std.specs.Prelude.{nat_eq, if◌then◌else◌, reverse}
 use Rattle.std.specs.FinMap as map
 use Rattle.tk_store.specs.declared.Entry.{Entry}
 use Rattle.tk_store.specs.declared.Macro.{Macro}
@@ -10,7 +11,8 @@ use Rattle.tk_store.specs.declared.tables.Saved.TheVariants.{Macro as Replaced, 
 use Rattle.tk_store.specs.Levels.{Level, Levels, opened, CountsOne, SetsMacro, SetsKey}
 use Rattle.tk_store.specs.Undo.{Tables, macros_in, keys_in, before, before_all, made_since, made_until, settings_at, level_of, outer_of, levels_of}
 use Rattle.tk_store.specs.Undo.{AreMarks}
-use Rattle.std.proofs.lemmas.List.{length-drop}
+use Rattle.std.proofs.Math.Dec.{eqb-suc-zero}
+use Rattle.std.proofs.lemmas.List.{length-drop, length-reverse, reverse-append}
 use Rattle.indexmap.specs.IndexMap.{set_value_at}
 use Rattle.tk_store.proofs.Places.{added_back}
 
@@ -75,18 +77,15 @@ marks_more n (mark ∷ marks) marked = (omega (arith, marked.0), marked.1)
 -- where what a setting replaced undoes it, only the last level is another
 module _ (saved all : List Saved) (marks : List ℕ) (old new : Tables) (s : Saved) (are : all ≡ s ∷ saved)
     (marked : AreMarks (length saved) marks) where
-  pub levels_set : before s new ≡ old
+  levels_set : before s new ≡ old
       → levels_of all marks new ≡ record (levels_of saved marks old) { top = level_of new (settings_at (length all) marks) }
   levels_set back i = record {
     outer = (ap (λ (l : List Saved). outer_of l marks new) are ∙ outer_set saved marks old new s back marked) i;
     top = level_of new (settings_at (length all) marks);
   }
 
-  pub one_setting_more : settings_at (length all) marks ≡ settings_at (length saved) marks + 1
+  one_setting_more : settings_at (length all) marks ≡ settings_at (length saved) marks + 1
   one_setting_more = ap (λ (l : List Saved). settings_at (length l) marks) are ∙ settings_set (length saved) marks marked
-
-  pub marks_set : AreMarks (length all) marks
-  marks_set = subst (λ (l : List Saved). AreMarks (length l) marks) (sym are) (marks_more (length saved) marks marked)
 
 -- the last level has those tables, and at most one more setting; all else stays
 pub record Changes (old new : Levels) (tables : Tables) : Type 0 where
@@ -94,7 +93,7 @@ pub record Changes (old new : Levels) (tables : Tables) : Type 0 where
   pub settings : CountsOne old new
 
 -- at a level that is open
-pub changes_level : (saved all : List Saved) (marks : List ℕ) (old new : Tables) (s : Saved)
+changes_level : (saved all : List Saved) (marks : List ℕ) (old new : Tables) (s : Saved)
     → all ≡ s ∷ saved
     → before s new ≡ old
     → AreMarks (length saved) marks
@@ -108,7 +107,7 @@ changes_level saved all marks old new s are back marked =
     }
 
 -- and while none is
-pub changes_bottom : (saved all : List Saved) (marks : List ℕ) (old new : Tables)
+changes_bottom : (saved all : List Saved) (marks : List ℕ) (old new : Tables)
     → all ≡ saved
     → marks ≡ []
     → Changes (levels_of saved marks old) (levels_of all marks new) new
@@ -124,6 +123,47 @@ changes_bottom saved all marks old new are none =
       levels = λ i. record { outer = outer i; top = level_of new (settings_at (length all) marks) };
       settings = record { low = omega (arith, count); high = omega (arith, count) };
     }
+
+-- in either case, where what a setting replaced is kept only if a level is open
+module _ (saved all : List Saved) (s : Saved) where
+  kept_there : (mark : ℕ) (marks : List ℕ) → (if nat_eq (length (mark ∷ marks)) 0 then saved else s ∷ saved) ≡ s ∷ saved
+  kept_there mark marks = ap (λ (b : Bool). (if b then saved else s ∷ saved)) (eqb-suc-zero (length marks))
+
+  changes_kept : (marks : List ℕ) (old new : Tables)
+      → all ≡ (if nat_eq (length marks) 0 then saved else s ∷ saved)
+      → before s new ≡ old
+      → AreMarks (length saved) marks
+      → Changes (levels_of saved marks old) (levels_of all marks new) new
+  changes_kept [] old new are back marked = changes_bottom saved all [] old new are refl
+  changes_kept (mark ∷ marks) old new are back marked =
+      changes_level saved all (mark ∷ marks) old new s (are ∙ kept_there mark marks) back marked
+
+  marks_kept : (marks : List ℕ) → all ≡ (if nat_eq (length marks) 0 then saved else s ∷ saved)
+      → AreMarks (length saved) marks → AreMarks (length all) marks
+  unfolding AreMarks
+  marks_kept [] are marked = tt
+  marks_kept (mark ∷ marks) are marked =
+      subst (λ (l : List Saved). AreMarks (length l) (mark ∷ marks)) (sym (are ∙ kept_there mark marks))
+      (marks_more (length saved) (mark ∷ marks) marked)
+
+-- the same of a store's vectors, in which the newest comes last
+module _ (items kept : List Saved) (marks : List ℕ) (levels : ℕ) (s : Saved) (counted : levels ≡ length marks)
+    (are : kept ≡ (if nat_eq levels 0 then items else items ++ s ∷ [])) where
+  reversed : (b : Bool) → reverse (if b then items else items ++ s ∷ []) ≡ (if b then reverse items else s ∷ reverse items)
+  reversed true = refl
+  reversed false = reverse-append items (s ∷ [])
+
+  kept_are : reverse kept ≡ (if nat_eq (length (reverse marks)) 0 then reverse items else s ∷ reverse items)
+  kept_are =
+      ap reverse are ∙ reversed (nat_eq levels 0)
+      ∙ ap (λ (n : ℕ). (if nat_eq n 0 then reverse items else s ∷ reverse items)) (counted ∙ sym (length-reverse marks))
+
+  pub setting_changes : (old new : Tables) → before s new ≡ old → AreMarks (length (reverse items)) (reverse marks)
+      → Changes (levels_of (reverse items) (reverse marks) old) (levels_of (reverse kept) (reverse marks) new) new
+  setting_changes old new back marked = changes_kept (reverse items) (reverse kept) s (reverse marks) old new kept_are back marked
+
+  pub marks_stay : AreMarks (length (reverse items)) (reverse marks) → AreMarks (length (reverse kept)) (reverse marks)
+  marks_stay marked = marks_kept (reverse items) (reverse kept) s (reverse marks) kept_are marked
 
 module _ (saved : List Saved) (marks : List ℕ) (old tables : Tables) (new : Levels)
     (changes : Changes (levels_of saved marks old) new tables) where

@@ -1,6 +1,7 @@
 //! Macros and keys in levels.
 
-ghost use Rattle.std.specs.Prelude.{◌≡◌, ◌+◌, ◌∷◌, ◌<◌, ◌≤◌, length, reverse, IfOk, OnOk, OnErr};
+ghost use Rattle.std.specs.Prelude.{◌≡◌, ◌+◌, ◌<◌, ◌≤◌, nat_eq, if◌then◌else◌, [], ◌∷◌, ◌++◌, length, reverse, IfOk, OnOk, OnErr};
+ghost use Rattle.std.specs.Vec.{vec_len, vec_capacity};
 ghost use Rattle.std.specs.Option.{option_copied};
 ghost use Rattle.std.specs.FinMap as map;
 ghost use Rattle.tk_store.specs.Levels.{new_levels, opened, SetsMacro, SetsKey};
@@ -76,10 +77,7 @@ impl Store {
     {
         self.saved.reserve(1)?;
         let replaced = self.tables.set_macro(name, value)?;
-        if self.marks.is_empty() {
-            return Ok(());
-        }
-        self.saved.push(replaced)?;
+        keep(&mut self.saved, self.marks.len(), replaced);
         Ok(())
     }
 
@@ -91,10 +89,7 @@ impl Store {
     {
         self.saved.reserve(1)?;
         let replaced = self.tables.set_key(path, entry)?;
-        if self.marks.is_empty() {
-            return Ok(());
-        }
-        self.saved.push(replaced)?;
+        keep(&mut self.saved, self.marks.len(), replaced);
         Ok(())
     }
 
@@ -143,6 +138,18 @@ impl Store {
         ensures { result ≡ length self.now.outer }
     {
         self.marks.len()
+    }
+}
+
+/// Keeps what a setting replaced, where any levels are open. There is room for it.
+fn keep(saved: &mut Vec<Saved>, levels: usize, replaced: Saved)
+    requires { vec_len saved.old < vec_capacity saved.old }
+    ensures { saved.new.items ≡ (if nat_eq levels 0 then saved.old.items else saved.old.items ++ replaced ∷ []) }
+{
+    if levels > 0 {
+        saved.push_reserved(replaced);
+    } else {
+        drop(replaced);
     }
 }
 

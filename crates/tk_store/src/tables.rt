@@ -1,9 +1,12 @@
 //! What the words and the keys of the current level stand for, and what a setting there replaced.
 
-ghost use Rattle.std.specs.Prelude.{◌≡◌, ◌+◌, IfOk, OnOk, OnErr};
+ghost use Rattle.std.specs.Prelude.{◌≡◌, ◌+◌, ◌<◌, [], ◌∷◌, ◌++◌, slice_get, IfOk, OnOk, OnErr};
+ghost use Rattle.std.specs.Map.{lookup};
+ghost use Rattle.std.specs.Str.{bytes_eq};
 ghost use Rattle.std.specs.Option.{option_copied};
 ghost use Rattle.std.specs.FinMap as map;
-ghost use Rattle.indexmap.specs.IndexMap.{set_value_at};
+ghost use Rattle.indexmap.specs.IndexMap.{set_value_at, index_map_len, values};
+ghost use Rattle.tk_store.specs.Paths.{by_bytes};
 ghost use Rattle.tk_store.specs.Undo.{no_tables, macros_in, keys_in, before};
 
 use crate::steps::Steps;
@@ -87,13 +90,10 @@ impl Tables {
         ensures undo { IfOk result (λ saved. before saved self.new ≡ self.old) }
         ensures err { OnErr result (self.new ≡ self.old) }
     {
-        if let Some(place) = self.keys.get_index_of(path) {
-            let old = mem::replace(&mut self.keys[place], entry);
-            return Ok(Saved::Key(place, old));
+        match self.keys.get_index_of(path) {
+            Some(place) => Ok(Saved::Key(place, replace_entry(&mut self.keys, place, entry))),
+            None => add_key(&mut self.keys, path, entry),
         }
-        let path = String::from_str(*self.keys.allocator(), path)?;
-        self.keys.insert(path, entry)?;
-        Ok(Saved::NoKey)
     }
 
     /// Undoes a setting, which is a step.
@@ -104,15 +104,36 @@ impl Tables {
         steps.tick();
         match saved {
             Saved::Macro(place, old) => write(&mut self.macros, place, old),
-            Saved::NoMacro => {
-                self.macros.pop();
-            }
+            Saved::NoMacro => drop(self.macros.pop()),
             Saved::Key(place, old) => write(&mut self.keys, place, old),
-            Saved::NoKey => {
-                self.keys.pop();
-            }
+            Saved::NoKey => drop(self.keys.pop()),
         }
     }
+}
+
+/// Gives the key at a place another entry, and takes the one that it had.
+fn replace_entry(keys: &mut IndexMap<String, Entry>, place: usize, entry: Entry) -> Entry
+    requires { place < index_map_len keys.old }
+    ensures entries { keys.new.entries ≡ set_value_at keys.old.entries place entry }
+    ensures had { slice_get (values keys.old) place ≡ Some result }
+{
+    mem::replace(&mut keys[place], entry)
+}
+
+/// Adds a key that isn't there, so that nothing is replaced. On want of memory all stays as it was.
+fn add_key(
+    keys: &mut IndexMap<String, Entry>,
+    path: &str,
+    entry: Entry,
+) -> Result<Saved, AllocError>
+    requires { lookup (bytes_eq path.now) (by_bytes keys.old.entries) ≡ None }
+    ensures keys { OnOk result (by_bytes keys.new.entries ≡ by_bytes keys.old.entries ++ (path.now, entry) ∷ []) }
+    ensures saved { IfOk result (λ saved. saved ≡ Saved.NoKey) }
+    ensures err { OnErr result (keys.new.entries ≡ keys.old.entries) }
+{
+    let path = String::from_str(*keys.allocator(), path)?;
+    drop(keys.insert(path, entry)?);
+    Ok(Saved::NoKey)
 }
 
 /// Gives the entry at a place another value.

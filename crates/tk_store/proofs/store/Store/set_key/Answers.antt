@@ -1,41 +1,29 @@
-use Rattle.std.proofs.Common.{◌≡◌, List, [], ◌∷◌, length, ap, subst, ◌∙◌, arith}
-use Rattle.std.specs.Prelude.{reverse}
-use Rattle.std.proofs.lemmas.List.{reverse-append, nil_from_length}
+use Rattle.std.proofs.Common.{◌≡◌, ◌++◌, [], ◌∷◌, List, ap, subst, ◌∙◌}
+use Rattle.std.specs.Prelude.{nat_eq, if◌then◌else◌, reverse}
 use Rattle.tk_store.specs.declared.tables.Saved.{Saved}
 use Rattle.tk_store.specs.Levels.{Levels, SetsKey}
 use Rattle.tk_store.specs.Undo.{levels_of}
-use Rattle.tk_store.proofs.Undoing.{changes_level, changes_bottom, marks_set, sets_key}
+use Rattle.tk_store.proofs.Undoing.{setting_changes, marks_stay, sets_key}
 use Rattle.tk_store.proofs.store.Store.set_key.Goals as goal
-use Rattle.tk_store.proofs.store.Store.set_key.Goals.{In_ok-push}
+use Rattle.tk_store.proofs.store.Store.set_key.Goals.{After-keep}
 
-pub returns-then-is_empty-clause-ok : goal.returns-then-is_empty-clause-ok
-returns-then-is_empty-clause-ok c =
-    let none : length c.self.inside.marks.items ≡ 0 = grind (arith, c.is_empty.ensures, c.if-is_empty.true) in
-    let new : Levels = levels_of (reverse c.reserve.new.self.items) (reverse c.self.inside.marks.items) c.set_key.new.self in
-    subst (λ (old : Levels). SetsKey old new c.args.path.now c.args.entry) c.self.view_is
-    (sets_key (reverse c.self.inside.saved.items) (reverse c.self.inside.marks.items) c.self.inside.tables c.set_key.new.self new
-    (changes_bottom (reverse c.self.inside.saved.items) (reverse c.reserve.new.self.items) (reverse c.self.inside.marks.items)
-    c.self.inside.tables c.set_key.new.self
-    (ap reverse c.reserve.ensures.items) (ap reverse (nil_from_length _ none)))
-    c.args.path.now c.args.entry c.in_ok-replaced.ensures.keys c.in_ok-replaced.ensures.macros)
-
-saved_are : (c : In_ok-push) → reverse c.push.new.self.items ≡ c.in_ok-replaced.replaced ∷ reverse c.self.inside.saved.items
-saved_are c =
-    ap reverse c.in_ok-push.ensures.items
-    ∙ reverse-append c.reserve.new.self.items (c.in_ok-replaced.replaced ∷ [])
-    ∙ ap (λ (l : List Saved). c.in_ok-replaced.replaced ∷ reverse l) c.reserve.ensures.items
+-- what the setting replaced is kept over what was there
+kept_are : (c : After-keep) → c.keep.new.saved.items
+    ≡ (if nat_eq c.len.result 0 then c.self.inside.saved.items else c.self.inside.saved.items ++ c.in_ok-replaced.replaced ∷ [])
+kept_are c =
+    c.keep.ensures
+    ∙ ap (λ (l : List Saved). (if nat_eq c.len.result 0 then l else l ++ c.in_ok-replaced.replaced ∷ [])) c.reserve.ensures.items
 
 pub invariant_of-self-2 : goal.invariant_of-self-2
 invariant_of-self-2 c =
-    marks_set (reverse c.self.inside.saved.items) (reverse c.push.new.self.items) (reverse c.self.inside.marks.items)
-    c.self.inside.tables c.set_key.new.self c.in_ok-replaced.replaced (saved_are c) c.self.invariant
+    marks_stay c.self.inside.saved.items c.keep.new.saved.items c.self.inside.marks.items c.len.result c.in_ok-replaced.replaced
+    c.len.ensures.value (kept_are c) c.self.invariant
 
 pub returns-clause-ok : goal.returns-clause-ok
 returns-clause-ok c =
-    let new : Levels = levels_of (reverse c.push.new.self.items) (reverse c.self.inside.marks.items) c.set_key.new.self in
+    let new : Levels = levels_of (reverse c.keep.new.saved.items) (reverse c.self.inside.marks.items) c.set_key.new.self in
     subst (λ (old : Levels). SetsKey old new c.args.path.now c.args.entry) c.self.view_is
     (sets_key (reverse c.self.inside.saved.items) (reverse c.self.inside.marks.items) c.self.inside.tables c.set_key.new.self new
-    (changes_level (reverse c.self.inside.saved.items) (reverse c.push.new.self.items) (reverse c.self.inside.marks.items)
-    c.self.inside.tables c.set_key.new.self c.in_ok-replaced.replaced
-    (saved_are c) c.in_ok-replaced.ensures.undo c.self.invariant)
+    (setting_changes c.self.inside.saved.items c.keep.new.saved.items c.self.inside.marks.items c.len.result c.in_ok-replaced.replaced
+    c.len.ensures.value (kept_are c) c.self.inside.tables c.set_key.new.self c.in_ok-replaced.ensures.undo c.self.invariant)
     c.args.path.now c.args.entry c.in_ok-replaced.ensures.keys c.in_ok-replaced.ensures.macros)
