@@ -167,8 +167,7 @@ impl Drawer {
         let measures = &arc.measures;
         let rx = measures.length_across(measures.radii.x, at)?;
         let ry = measures.length_upward(measures.radii.y, at)?;
-        let alloc = self.state.allocator();
-        let done = path.arc(alloc, &self.origin(), measures.matrix, &arc.sweep, rx, ry)?;
+        let done = path.arc(&self.origin(), measures.matrix, &arc.sweep, rx, ry)?;
         Ok(answer_at(done, at)?)
     }
 
