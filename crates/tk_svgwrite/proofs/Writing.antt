@@ -220,10 +220,18 @@ pen_parts before o1 o2 o3 o4 o5 o6 s colour ends joins e f g h1 h2 h3 h4 h5 h6 =
 
 -- ---- the document
 
-pub document_written : (o1 o2 o3 o4 : List ℕ) (d : Drawing) (items : List Item) (i : ℕ) → o1 ≡ declaration ++ codes "\n" → o2 ≡ o1 ++ svg_text d
-    → items ≡ d.items → length items ≤ i → o3 ≡ o2 ++ flat_map item_text (take i items) → o4 ≡ o3 ++ codes "</svg>\n" → o4 ≡ document_text d
+document_shape : (before start svg items end : List ℕ) → (((before ++ start) ++ svg) ++ items) ++ end ≡ before ++ (((start ++ svg) ++ items) ++ end)
+document_shape before start svg items end = simp append_assoc
+
+pub document_written : (before o1 o2 o3 o4 : List ℕ) (d : Drawing) → o1 ≡ before ++ (declaration ++ codes "\n") → o2 ≡ o1 ++ svg_text d
+    → o3 ≡ o2 ++ flat_map item_text d.items → o4 ≡ o3 ++ codes "</svg>\n" → o4 ≡ before ++ document_text d
 unfolding document_text
-document_written o1 o2 o3 o4 d items i e1 e2 is le e3 e4 =
+document_written before o1 o2 o3 o4 d e1 e2 e3 e4 =
     e4 ∙ ap (λ (w : List ℕ). w ++ codes "</svg>\n")
-    (e3 ∙ ap (λ (w : List Item). o2 ++ flat_map item_text w) (take_all i items le ∙ is)
-    ∙ ap (λ (w : List ℕ). w ++ flat_map item_text d.items) (e2 ∙ ap (λ (w : List ℕ). w ++ svg_text d) e1))
+    (e3 ∙ ap (λ (w : List ℕ). w ++ flat_map item_text d.items) (e2 ∙ ap (λ (w : List ℕ). w ++ svg_text d) e1))
+    ∙ document_shape before (declaration ++ codes "\n") (svg_text d) (flat_map item_text d.items) (codes "</svg>\n")
+
+-- the elements of all items, once the loop is at their end
+pub items_written : (before now : List ℕ) (items : List Item) (i : ℕ) → length items ≤ i → now ≡ before ++ flat_map item_text (take i items)
+    → now ≡ before ++ flat_map item_text items
+items_written before now items i le e = e ∙ ap (λ (w : List Item). before ++ flat_map item_text w) (take_all i items le)

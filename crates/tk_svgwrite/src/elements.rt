@@ -1,6 +1,6 @@
 //! Elements, one a line. Each call writes at the end of `out`, or runs out of memory.
 
-ghost use Rattle.std.specs.Prelude.{◌≡◌, ◌∷◌, ◌++◌, [], OnOk, Some, codes, neg_ℤ};
+ghost use Rattle.std.specs.Prelude.{◌≡◌, ◌∷◌, ◌++◌, [], OnOk, Some, codes, flat_map, neg_ℤ};
 ghost use Rattle.std.specs.List.{AllByRecursion};
 ghost use Rattle.tk_num.specs.Number.{IsScaled};
 ghost use Rattle.tk_num.specs.Text.{text_of};
@@ -20,13 +20,25 @@ use crate::presentation::Presentation;
 use crate::values::{
     cap_word, join_word, put_data, put_number, put_pair, put_scaled, rgb_digits, rule_word,
 };
-use std::alloc::AllocError;
+use std::alloc::{AllocError, Global};
 use tk_item::{Drawing, Fill, Frame, Item, Seg, Stroke, Text};
 use tk_num::Scaled;
 
+/// Writes the elements of items.
+pub fn put_items(out: &mut Vec<u8>, alloc: Global, items: &[Item]) -> Result<(), AllocError>
+    ensures text { OnOk result (out.new.items ≡ out.old.items ++ flat_map item_text items.now) }
+    ensures range { OnOk result (AllByRecursion ItemInRange items.now) }
+{
+    let mut presentation = Presentation::new(alloc)?;
+    for item in items {
+        put_item(out, &mut presentation, item)?;
+    }
+    Ok(())
+}
+
 /// Writes the element of an item. Labels are not written. `presentation` is that of the path before.
 #[tactic(auto, unfolding(crate::specs::Plain::item_text))]
-pub fn put_item(
+fn put_item(
     out: &mut Vec<u8>,
     presentation: &mut Presentation,
     item: &Item,
