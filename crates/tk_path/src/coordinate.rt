@@ -7,6 +7,8 @@ ghost use Rattle.tk_token.specs.Answers.{or_fault};
 ghost use Rattle.tk_token.specs.Groups.{cut, before_char};
 ghost use Rattle.tk_token.specs.Refusals.{Gives};
 ghost use Rattle.tk_expand.specs.Unread.{Unread};
+ghost use Rattle.tk_expr.specs.Evaluated.{evaluated};
+ghost use Rattle.tk_coord.specs.Coordinates.{point_of};
 ghost use Rattle.tk_path.specs.Coordinates as spec;
 ghost use Rattle.tk_path.specs.CurrentPaths.{CurrentPath as ACurrentPath};
 ghost use Rattle.tk_path.specs.Views.{given_to, configuration_of, lookahead_of, reached_at, written_of, OnlyPays};
@@ -140,7 +142,7 @@ impl Drawer {
     }
 
     /// The point of a coordinate, relative to a point where it has a sign.
-    #[tactic(auto, unfolding(crate::specs::Coordinates::coordinate_point), using(tk_expr::proofs::Runs::evaluated_is_the_answer))]
+    #[tactic(auto, unfolding(crate::specs::Coordinates::coordinate_point))]
     pub(crate) fn coordinate_point(
         &mut self,
         written: Written,
@@ -154,14 +156,23 @@ impl Drawer {
     {
         let Written { sign, at, text } = written;
         let text = self.state.expand(text)?;
+        self.point_of_text(&text, sign.start(from), at)
+    }
+
+    /// The point of a coordinate whose text was expanded and whose `(` stands at that place, relative to a point if there
+    /// is one.
+    fn point_of_text(&self, text: &[Tok], from: Option<Point>, at: u32) -> Result<Point, Refusal>
+        ensures { Gives (λ point. point) result (point_of evaluated self.now.state.font self.now.state.graphics.look
+            self.now.state.graphics.matrix at from text.now) }
+    {
         let graphics = self.state.graphics();
         let target = resolve(
             self.state.allocator(),
-            &text,
+            text,
             &graphics.look,
             graphics.matrix,
             self.state.font_units(),
-            sign.start(from),
+            from,
             at,
         )?;
         Ok(target.point)

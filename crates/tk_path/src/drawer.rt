@@ -1,7 +1,8 @@
 //! A picture as it is drawn, and what stands next in its list.
 
-ghost use Rattle.std.specs.Prelude.{◌≡◌, ◌≤ℤ◌, pos, OnOk};
-ghost use Rattle.tk_svg.specs.Fitting.{FitsStroke};
+ghost use Rattle.std.specs.Prelude.{◌≡◌, ◌≤ℤ◌, pos, OnOk, ◌++◌};
+ghost use Rattle.std.specs.List.{AllByRecursion};
+ghost use Rattle.tk_svg.specs.Fitting.{BeginsWithMove, FitsItem, FitsStroke, IsPath};
 ghost use Rattle.tk_expr.specs.Evaluates.{Evaluation};
 ghost use Rattle.tk_keys.specs.State.{given_of};
 ghost use Rattle.tk_token.specs.Refusals.{Gives};
@@ -14,7 +15,7 @@ ghost use Rattle.tk_path.specs.Views.{given_to, picture_of, configuration_of, lo
 use crate::trace::CurrentPath;
 use std::alloc::AllocError;
 use tk_expand::Input;
-use tk_item::{Fill, Frame, Item, Items, Stroke, half_width, widen};
+use tk_item::{Fill, Frame, Item, Items, Segs, Stroke, half_width, widen};
 use tk_keys::State;
 use tk_look::Look;
 use tk_token::{Code, Refusal, Tok};
@@ -71,12 +72,21 @@ impl Drawer {
         };
         let look = &self.state.graphics().look;
         self.frame = widen(self.frame, segs.as_slice(), look_reach(look));
-        if look.fill_on || look.draw_on {
-            let item = Item::Path(segs, look_fill(look), look_stroke(look));
-            self.items.push(item)?;
-        }
-        Ok(())
+        paint(&mut self.items, segs, look)
     }
+}
+
+/// Puts a path at the end of items, if a look fills or draws it.
+fn paint(items: &mut Items, segs: Segs, look: &Look) -> Result<(), AllocError>
+    requires { BeginsWithMove segs }
+    ensures items { OnOk result (items.new ≡ items.old ++ pictures.path_items look.now segs) }
+    ensures fits { OnOk result (AllByRecursion FitsItem items.old → AllByRecursion FitsItem items.new) }
+    ensures paths { OnOk result (AllByRecursion IsPath items.old → AllByRecursion IsPath items.new) }
+{
+    if !(look.fill_on || look.draw_on) {
+        return Ok(());
+    }
+    items.push(Item::Path(segs, look_fill(look), look_stroke(look)))
 }
 
 /// How a look fills a path.

@@ -1,6 +1,10 @@
 //! What circles, arcs and grids are measured by.
 
-ghost use Rattle.std.specs.Prelude.{◌≡◌, OnOk};
+ghost use Rattle.std.specs.Prelude.{◌≡◌, Ok, Err, OnOk, MatchResult};
+ghost use Rattle.tk_characters.specs.Characters.{colon};
+ghost use Rattle.tk_token.specs.declared.Code.TheVariants.{PathSyntax};
+ghost use Rattle.tk_token.specs.Answers.{◌>>=◌ as ◌followed_by◌, or_fault};
+ghost use Rattle.tk_token.specs.Groups.{cut, before_char as spec_before_char};
 ghost use Rattle.tk_token.specs.Refusals.{Gives};
 ghost use Rattle.tk_expr.specs.Evaluated.{evaluated};
 ghost use Rattle.tk_path.specs.CurrentPaths.{CurrentPath as ACurrentPath};
@@ -9,6 +13,7 @@ ghost use Rattle.tk_path.specs.Views.{given_to, configuration_of, lookahead_of, 
 
 use crate::drawer::Drawer;
 use crate::keys::option_list;
+use crate::trace::Mesh;
 use tk_affine::Matrix;
 use tk_expand::{Input, is_there};
 use tk_expr::{FontUnits, Value, eval, length_along, placed};
@@ -95,6 +100,31 @@ impl Measures {
         length_along(self.y, value, at)
     }
 
+    /// The lengths of the radii.
+    pub(crate) fn radii_lengths(&self, at: u32) -> Result<(Scaled, Scaled), Fault>
+        ensures { result ≡ spec.length_across self.now at self.now.radii.x
+            followed_by (λ rx. spec.length_upward self.now at self.now.radii.y followed_by (λ ry. Ok (rx, ry))) }
+    {
+        let rx = self.length_across(self.radii.x, at)?;
+        let ry = self.length_upward(self.radii.y, at)?;
+        Ok((rx, ry))
+    }
+
+    /// The steps of a grid as lengths, with its matrix.
+    pub(crate) fn mesh(&self, at: u32) -> Result<Mesh, Fault>
+        ensures { result ≡ spec.length_across self.now at self.now.xstep
+            followed_by (λ xstep. spec.length_upward self.now at self.now.ystep
+            followed_by (λ ystep. Ok (record { matrix = self.now.matrix; xstep = xstep; ystep = ystep }))) }
+    {
+        let xstep = self.length_across(self.xstep, at)?;
+        let ystep = self.length_upward(self.ystep, at)?;
+        Ok(Mesh {
+            matrix: self.matrix,
+            xstep,
+            ystep,
+        })
+    }
+
     /// The angles of an arc by keys: two of them tell the third.
     #[tactic(auto, unfolding(crate::specs::Measures::sweep_of))]
     pub(crate) fn sweep(&self, at: u32) -> Result<Sweep, Fault>
@@ -127,46 +157,74 @@ impl Measures {
 
 /// The value of an expression.
 #[tactic(auto, using(tk_look::proofs::Evaluations::answer_is))]
-fn value_in(text: &[Tok], font: FontUnits, at: u32) -> Result<Value, Fault>
-    ensures { result ≡ evaluated font at text.now }
+fn value_in(text: &[Tok], font: &FontUnits, at: u32) -> Result<Value, Fault>
+    ensures { result ≡ evaluated font.now at text.now }
 {
-    eval(text, font, at)
+    eval(text, *font, at)
 }
 
 /// The radii of a text, `r and s` or `r`, which is both; `at` is the place of an empty one.
 #[tactic(auto, unfolding(crate::specs::Measures::radii_in))]
-pub(crate) fn radii_in(text: &[Tok], font: FontUnits, at: u32) -> Result<Radii, Fault>
-    ensures { result ≡ spec.radii_in evaluated font at text.now }
+pub(crate) fn radii_in(text: &[Tok], font: &FontUnits, at: u32) -> Result<Radii, Fault>
+    ensures { result ≡ spec.radii_in evaluated font.now at text.now }
 {
     match first_outside(text, Sought::And) {
-        Some((front, rest)) => {
-            let x = value_in(front, font, at)?;
-            let y = value_in(rest.get(3..).unwrap_or(&[]), font, at)?;
-            Ok(Radii { x, y })
-        }
-        None => {
-            let radius = &value_in(text, font, at)?;
-            Ok(Radii {
-                x: *radius,
-                y: *radius,
-            })
-        }
+        Some((front, rest)) => two_radii(front, rest.get(3..).unwrap_or(&[]), font, at),
+        None => one_radius(text, font, at),
     }
+}
+
+/// The radii of a text for each.
+fn two_radii(first: &[Tok], second: &[Tok], font: &FontUnits, at: u32) -> Result<Radii, Fault>
+    ensures { result ≡ evaluated font.now at first.now
+        followed_by (λ x. evaluated font.now at second.now followed_by (λ y. Ok (record { x = x; y = y }))) }
+{
+    let x = value_in(first, font, at)?;
+    let y = value_in(second, font, at)?;
+    Ok(Radii { x, y })
+}
+
+/// The radii of a text for both.
+fn one_radius(text: &[Tok], font: &FontUnits, at: u32) -> Result<Radii, Fault>
+    ensures { result ≡ evaluated font.now at text.now followed_by (λ r. Ok (record { x = r; y = r })) }
+{
+    let radius = &value_in(text, font, at)?;
+    Ok(Radii {
+        x: *radius,
+        y: *radius,
+    })
 }
 
 /// The angles and radii of `a:b:r` or `a:b:r and s`, whose `(` stands at `at`.
 #[tactic(auto, unfolding(crate::specs::Measures::arc_in))]
-pub(crate) fn arc_in(text: &[Tok], font: FontUnits, at: u32) -> Result<ArcText, Fault>
-    ensures { result ≡ spec.arc_in evaluated font at text.now }
+pub(crate) fn arc_in(text: &[Tok], font: &FontUnits, at: u32) -> Result<ArcText, Fault>
+    ensures { result ≡ spec.arc_in evaluated font.now at text.now }
 {
-    let (first, rest) = before_char(text, ':').ok_or(Fault::new(Code::PathSyntax, at))?;
-    let (second, rest) = before_char(rest, ':').ok_or(Fault::new(Code::PathSyntax, at))?;
-    let from = value_in(first, font, at)?.number;
-    let to = value_in(second, font, at)?.number;
-    Ok(ArcText {
-        sweep: Sweep { from, to },
-        radii: radii_in(rest, font, at)?,
-    })
+    let (first, rest) = before_colon(text, at)?;
+    let (second, rest) = before_colon(rest, at)?;
+    let sweep = sweep_in(first, second, font, at)?;
+    let radii = radii_in(rest, font, at)?;
+    Ok(ArcText { sweep, radii })
+}
+
+/// What stands before the first `:` of a text, and behind it.
+fn before_colon(text: &[Tok], at: u32) -> Result<(&[Tok], &[Tok]), Fault>
+    ensures { MatchResult result
+        (λ parts. or_fault (spec_before_char colon text.now) PathSyntax at ≡ Ok (cut parts.0.now parts.1.now))
+        (λ fault. or_fault (spec_before_char colon text.now) PathSyntax at ≡ Err fault) }
+{
+    before_char(text, ':').ok_or(Fault::new(Code::PathSyntax, at))
+}
+
+/// The angles of two texts.
+fn sweep_in(from: &[Tok], to: &[Tok], font: &FontUnits, at: u32) -> Result<Sweep, Fault>
+    ensures { result ≡ spec.angle_in evaluated font.now at from.now
+        followed_by (λ a. spec.angle_in evaluated font.now at to.now
+        followed_by (λ b. Ok (record { from = a; to = b }))) }
+{
+    let from = value_in(from, font, at)?.number;
+    let to = value_in(to, font, at)?.number;
+    Ok(Sweep { from, to })
 }
 
 impl Drawer {

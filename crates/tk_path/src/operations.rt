@@ -1,12 +1,14 @@
 //! The operations of a path.
 
-ghost use Rattle.std.specs.Prelude.{◌≡◌, OnOk, codes};
+ghost use Rattle.std.specs.Prelude.{◌≡◌, OnOk, codes, Ok, ◌∷◌, []};
 ghost use Rattle.tk_token.specs.Refusals.{Gives};
 ghost use Rattle.tk_expand.specs.Unread.{Unread};
 ghost use Rattle.tk_svg.specs.Fitting.{BeginsWithMove};
-ghost use Rattle.tk_path.specs.CurrentPaths.{CurrentPath as ACurrentPath};
+ghost use Rattle.tk_keys.specs.State.{env_of};
+ghost use Rattle.tk_path.specs.CurrentPaths.{CurrentPath as ACurrentPath, in_subpath, with_pieces};
 ghost use Rattle.tk_path.specs.Operations as spec;
-ghost use Rattle.tk_path.specs.Targets.{A_coordinate, The_start};
+ghost use Rattle.tk_path.specs.Operations.{Cornered};
+ghost use Rattle.tk_path.specs.Targets.{A_coordinate, The_start, origin_of};
 ghost use Rattle.tk_path.specs.Words.{past_word};
 ghost use Rattle.tk_path.specs.Views.{given_to, configuration_of, lookahead_of, reached_at, written_of, target_of};
 ghost use Rattle.tk_path.specs.Views.{control_of, way_of, OnlyPays, KeepsDrawn};
@@ -137,40 +139,57 @@ impl Drawer {
         ensures begins { OnOk result (BeginsWithMove path.new.segs) }
         ensures pays { OnOk result (OnlyPays self.old self.new) }
     {
-        let origin = self.origin();
         match way {
-            Way::Straight => {
-                path.begin(&origin)?;
-                Ok(path.add(Seg::Line(end))?)
-            }
-            Way::Cornered(sign, at) => {
-                let matrix = self.state.graphics().matrix;
-                let corner = corner_between(sign, matrix, path.current_point(&origin), end, at)?;
-                path.begin(&origin)?;
-                path.add(Seg::Line(corner))?;
-                Ok(path.add(Seg::Line(end))?)
-            }
+            Way::Straight => self.draw(path, Seg::Line(end)),
+            Way::Cornered(sign, at) => self.draw_corner(path, sign, at, end),
             Way::Curved(first, second) => {
-                let second = self.control_point(end, second)?;
-                path.begin(&origin)?;
-                Ok(path.add(Seg::Curve(first, second, end))?)
+                let second = self.control_point(&end, second)?;
+                self.draw(path, Seg::Curve(first, second, end))
             }
         }
+    }
+
+    /// Draws a corner from the current point to another; its sign stands at that place.
+    #[tactic(auto, unfolding(crate::specs::Operations::way_drawn))]
+    fn draw_corner(
+        &self,
+        path: &mut CurrentPath,
+        sign: CornerSign,
+        at: u32,
+        end: Point,
+    ) -> Result<(), Refusal>
+        ensures gives { (rest : Unread) → Gives (λ _. configuration_of self.now path.new rest) result
+            (spec.way_drawn (given_to self.now) (Cornered sign at) end (configuration_of self.now path.old rest)) }
+        ensures begins { OnOk result (BeginsWithMove path.new.segs) }
+    {
+        let corner = corner_between(sign, self.state.graphics().matrix, self.here(path), end, at)?;
+        self.draw(path, Seg::Line(corner))?;
+        Ok(path.add(Seg::Line(end))?)
+    }
+
+    /// Draws a piece that follows on the path.
+    fn draw(&self, path: &mut CurrentPath, piece: Seg) -> Result<(), Refusal>
+        ensures path { Gives (λ _. path.new) result
+            (Ok (with_pieces (piece ∷ []) (in_subpath (origin_of (env_of self.now.state)) path.old))) }
+        ensures begins { OnOk result (BeginsWithMove path.new.segs) }
+    {
+        path.begin(&self.origin())?;
+        Ok(path.add(piece)?)
     }
 
     // ---- curves
 
     /// Where the second control point is, of a curve that ends at that point.
     #[tactic(auto, unfolding(crate::specs::Operations::control_point))]
-    fn control_point(&mut self, end: Point, control: Control) -> Result<Point, Refusal>
+    fn control_point(&mut self, end: &Point, control: Control) -> Result<Point, Refusal>
         ensures gives { (path : ACurrentPath) (rest : Unread)
             → Gives (λ point. reached_at point self.new path rest) result
-            (spec.control_point (given_to self.old) end (control_of control) (configuration_of self.old path rest)) }
+            (spec.control_point (given_to self.old) end.now (control_of control) (configuration_of self.old path rest)) }
         ensures pays { OnOk result (OnlyPays self.old self.new) }
     {
         match control {
             Control::Known(point) => Ok(point),
-            Control::FromEnd(written) => self.coordinate_point(written, end),
+            Control::FromEnd(written) => self.coordinate_point(written, *end),
         }
     }
 

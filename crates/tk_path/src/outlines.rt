@@ -10,7 +10,7 @@ ghost use Rattle.tk_path.specs.Views.{given_to, configuration_of, lookahead_of, 
 use crate::coordinate::written_text;
 use crate::drawer::{Drawer, misfit};
 use crate::measures::{ArcMeasures, ArcText, Measures, arc_in, radii_in};
-use crate::trace::{CurrentPath, Goal, Mesh};
+use crate::trace::{CurrentPath, Goal};
 use tk_expand::{Input, is_there};
 use tk_look::answer_at;
 use tk_token::{Refusal, Tok};
@@ -82,7 +82,7 @@ impl Drawer {
         }
         let place = input.place(first);
         let text = self.text_behind(input, place)?;
-        let radii = radii_in(&text, self.state.font_units(), place)?;
+        let radii = radii_in(&text, &self.state.font_units(), place)?;
         Ok(Measures {
             radii,
             ..Measures::of(self.state.graphics())
@@ -100,8 +100,7 @@ impl Drawer {
         ensures { (rest : Unread) → Gives (λ _. configuration_of self.now path.new rest) result
             (spec.circle_with at measures (configuration_of self.now path.old rest)) }
     {
-        let rx = measures.length_across(measures.radii.x, at)?;
-        let ry = measures.length_upward(measures.radii.y, at)?;
+        let (rx, ry) = measures.radii_lengths(at)?;
         let alloc = self.state.allocator();
         let done = path.circle(alloc, &self.origin(), measures.matrix, rx, ry)?;
         Ok(answer_at(done, at)?)
@@ -143,7 +142,7 @@ impl Drawer {
         let place = input.place(first);
         if is_there(first, '(') {
             let text = self.text_behind(input, place)?;
-            let ArcText { sweep, radii } = arc_in(&text, self.state.font_units(), place)?;
+            let ArcText { sweep, radii } = arc_in(&text, &self.state.font_units(), place)?;
             let measures = Measures {
                 radii,
                 ..Measures::of(self.state.graphics())
@@ -164,11 +163,9 @@ impl Drawer {
         ensures { (rest : Unread) → Gives (λ _. configuration_of self.now path.new rest) result
             (spec.arc_with at arc (configuration_of self.now path.old rest)) }
     {
-        let measures = &arc.measures;
-        let rx = measures.length_across(measures.radii.x, at)?;
-        let ry = measures.length_upward(measures.radii.y, at)?;
-        let alloc = self.state.allocator();
-        let done = path.arc(alloc, &self.origin(), measures.matrix, &arc.sweep, rx, ry)?;
+        let ArcMeasures { measures, sweep } = arc;
+        let (rx, ry) = measures.radii_lengths(at)?;
+        let done = path.arc(&self.origin(), measures.matrix, &sweep, rx, ry)?;
         Ok(answer_at(done, at)?)
     }
 
@@ -224,11 +221,7 @@ impl Drawer {
             (spec.grid_to self.old.state.budget at measures.now to.now (configuration_of self.old path.old rest)) }
         ensures pays { OnOk result (OnlyPays self.old self.new) }
     {
-        let mesh = Mesh {
-            matrix: measures.matrix,
-            xstep: measures.length_across(measures.xstep, at)?,
-            ystep: measures.length_upward(measures.ystep, at)?,
-        };
+        let mesh = measures.mesh(at)?;
         let alloc = self.state.allocator();
         let mut units = self.state.units();
         path.grid(alloc, &self.origin(), &mesh, to, &mut units, at)?;

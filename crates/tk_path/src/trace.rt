@@ -3,6 +3,8 @@
 ghost use Rattle.std.specs.Prelude.{◌≡◌, ◌∷◌, [], None, Ok, OnOk, IfOk, MatchOption, IfSome, slice_get, length, ◌-◌};
 ghost use Rattle.tk_svg.specs.Fitting.{BeginsWithMove};
 ghost use Rattle.tk_token.specs.Refusals.{Gives};
+ghost use Rattle.tk_affine.specs.Steps.{◌>>=◌ as ◌followed_by◌};
+ghost use Rattle.tk_geom.specs.Arcs.{arc_pieces};
 ghost use Rattle.tk_path.specs.CurrentPaths as spec;
 ghost use Rattle.tk_path.specs.Meshes.{meshed, mesh_drawn};
 ghost use Rattle.tk_path.specs.Views.{BeginsOrNone, Draws};
@@ -207,7 +209,6 @@ impl CurrentPath {
     /// Adds an arc from the current point, between those angles. Behind a fault nothing is said of the path.
     pub(crate) fn arc(
         &mut self,
-        alloc: Global,
         origin: &Point,
         matrix: Matrix,
         sweep: &Sweep,
@@ -216,21 +217,34 @@ impl CurrentPath {
     ) -> Result<Result<(), AffFault>, AllocError>
         ensures { IfOk result (λ done. Draws self.new done (spec.arced origin.now matrix sweep.now rx ry self.old)) }
     {
-        let Sweep { from, to } = *sweep;
-        if from == to {
+        if sweep.from == sweep.to {
             self.ground(origin);
             return Ok(Ok(()));
         }
         self.begin(origin)?;
-        let start = self.start;
-        let mut segs = self.take_segs(alloc);
-        let count = segs.as_slice().len();
+        self.add_arc(origin, matrix, sweep, rx, ry)
+    }
+
+    /// Adds the curves of an arc from the current point, once pieces may follow, and stands at their end. Behind a fault
+    /// nothing is said of the path.
+    fn add_arc(
+        &mut self,
+        origin: &Point,
+        matrix: Matrix,
+        sweep: &Sweep,
+        rx: Scaled,
+        ry: Scaled,
+    ) -> Result<Result<(), AffFault>, AllocError>
+        requires { BeginsWithMove self.old.segs }
+        ensures { IfOk result (λ done. Draws self.new done
+            (arc_pieces matrix (spec.current_point origin.now self.old) sweep.now.from sweep.now.to rx ry
+            followed_by (λ segs. Ok (spec.along_curves origin.now segs self.old)))) }
+    {
+        let count = self.segs.as_slice().len();
         let begin = self.current_point(origin);
-        let done = push_arc(&mut segs, matrix, begin, from, to, rx, ry)?;
+        let done = push_arc(&mut self.segs, matrix, begin, sweep.from, sweep.to, rx, ry)?;
         if done.is_ok() {
-            let end = self.last_end(origin, segs.as_slice().get(count..).unwrap_or(&[]));
-            self.segs = segs;
-            self.start = start;
+            let end = self.last_end(origin, self.segs.as_slice().get(count..).unwrap_or(&[]));
             self.stand(
                 origin,
                 &Goal {

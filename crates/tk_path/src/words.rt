@@ -1,6 +1,8 @@
 //! The words and signs of paths.
 
 ghost use Rattle.std.specs.Prelude.{◌≡◌, ◌∷◌, Some, OnOk, is_some, option_map, slice_get};
+ghost use Rattle.tk_token.specs.declared.Code.TheVariants.{PathSyntax};
+ghost use Rattle.tk_token.specs.Answers.{◌>>=◌ as ◌followed_by◌, or_fault};
 ghost use Rattle.tk_token.specs.Refusals.{Gives};
 ghost use Rattle.tk_path.specs.CurrentPaths.{CurrentPath as ACurrentPath};
 ghost use Rattle.tk_path.specs.Views.{given_to, configuration_of, lookahead_of, reached_at, OnlyPays};
@@ -226,6 +228,18 @@ impl Words {
             Words::Controls => control(first, second),
         }
     }
+
+    /// The one that begins with that letter and the letter that a token is; the fault stands at that place.
+    fn row_behind(self, first: char, second: Option<Tok>, at: u32) -> Result<Row, Refusal>
+        ensures { Gives (λ row. (row.0.now, row.1)) result (or_fault (spec.letter_there second) PathSyntax at
+            followed_by (λ letter. or_fault
+            (slice_get (spec.going_on letter (spec.going_on first (spec.word_table self))) 0) PathSyntax at)) }
+    {
+        match letter(second) {
+            Some(second) => self.row(first, second).ok_or(misfit(at)),
+            None => Err(misfit(at)),
+        }
+    }
 }
 
 /// The letter that a token is.
@@ -308,12 +322,8 @@ impl Drawer {
         if !words.begin(first) {
             return Err(misfit(at));
         }
-        let Some(second) = letter(self.token(input)?) else {
-            return Err(misfit(at));
-        };
-        let Some((letters, word)) = words.row(first, second) else {
-            return Err(misfit(at));
-        };
+        let second = self.token(input)?;
+        let (letters, word) = words.row_behind(first, second, at)?;
         self.expect_letters(input, at, letters)?;
         Ok(word)
     }

@@ -16,10 +16,11 @@ use Rattle.tk_item.specs.declared.Stroke.{Stroke}
 use Rattle.tk_item.specs.declared.Item.{Item}
 use Rattle.tk_item.specs.declared.Item.TheVariants.{Path}
 use Rattle.tk_item.specs.declared.Drawing.{Drawing}
+use Rattle.tk_item.specs.declared.Frame.{Frame}
 use Rattle.tk_svg.specs.Document.{declaration}
 use Rattle.tk_svgwrite.specs.Plain.{attribute_text, attributes_text, Setting, setting, differing, numbers_text, rgb_text, rule_text, cap_text}
 use Rattle.tk_svgwrite.specs.Plain.{join_text, dash_text, data_text, fill_settings, stroke_settings, item_text, frame_width, frame_height}
-use Rattle.tk_svgwrite.specs.Plain.{points_text, box_text, svg_attributes, svg_text, document_text}
+use Rattle.tk_svgwrite.specs.Plain.{points_text, box_text, svg_text, document_text}
 use Rattle.tk_svgwrite.specs.Presentations.{presentation_text}
 use Rattle.tk_svgwrite.proofs.Paint.{all_fit, dash_no_none}
 
@@ -122,12 +123,6 @@ path_parts before opened described all segs fill stroke o d e =
     ∙ path_shape before (codes "<path") (codes " d=\"") (data_text segs) (codes "\"") (settings_text (fill_settings fill ++ stroke_settings stroke))
     (codes "/>\n")
 
-pub svg_parts : (before now : List ℕ) (d : Drawing) → now ≡ (before ++ codes "<svg") ++ attributes_text (svg_attributes d)
-    → now ++ codes ">\n" ≡ before ++ svg_text d
-unfolding svg_text
-svg_parts before now d e =
-    ap (λ (w : List ℕ). w ++ codes ">\n") e ∙ joined_inside before (codes "<svg") (attributes_text (svg_attributes d)) (codes ">\n")
-
 -- ---- steps of loops
 
 pub flat_map_step : {X : Type 0} (f : X → List ℕ) (xs : List X) (i : ℕ) (x : X) (before now new : List ℕ) → i < length xs → x ≡ get_or xs i x
@@ -181,27 +176,40 @@ seven_settings before o1 o2 o3 o4 o5 o6 a b c d e f g h1 h2 h3 h4 h5 h6 =
     let h6 = setting_step (a ∷ b ∷ c ∷ d ∷ e ∷ []) f before o5 o6 h5 h6 in
     setting_step (a ∷ b ∷ c ∷ d ∷ e ∷ f ∷ []) g before o6 _ h6 refl
 
--- seven attributes, one behind another
-pub svg_steps : (before o1 o2 o3 o4 o5 o6 o7 : List ℕ) (d : Drawing)
-    → o1 ≡ before ++ attribute_text (codes "xmlns", codes "http://www.w3.org/2000/svg") → o2 ≡ o1 ++ attribute_text (codes "version", codes "1.1")
-    → o3 ≡ o2 ++ attribute_text (codes "width", points_text (frame_width d.frame))
-    → o4 ≡ o3 ++ attribute_text (codes "height", points_text (frame_height d.frame)) →
-    o5 ≡ o4 ++ attribute_text (codes "viewBox", box_text d.frame) → o6 ≡ o5 ++ attribute_text (codes "font-family", d.family)
-    → o7 ≡ o6 ++ attribute_text (codes "font-size", text_of d.size) → o7 ≡ before ++ attributes_text (svg_attributes d)
-svg_steps before o1 o2 o3 o4 o5 o6 o7 d h1 h2 h3 h4 h5 h6 h7 =
-    let a : Attribute = (codes "xmlns", codes "http://www.w3.org/2000/svg") in
-    let b : Attribute = (codes "version", codes "1.1") in
-    let c : Attribute = (codes "width", points_text (frame_width d.frame)) in
-    let e : Attribute = (codes "height", points_text (frame_height d.frame)) in
-    let f : Attribute = (codes "viewBox", box_text d.frame) in
-    let g : Attribute = (codes "font-family", d.family) in
+-- the attributes of a frame, one behind another
+abbrev pub frame_attributes : Frame → List Attribute
+frame_attributes frame =
+    (codes "width", points_text (frame_width frame)) ∷ (codes "height", points_text (frame_height frame)) ∷ (codes "viewBox", box_text frame) ∷ []
+
+pub frame_steps : (before o1 o2 : List ℕ) (frame : Frame) → o1 ≡ before ++ attribute_text (codes "width", points_text (frame_width frame))
+    → o2 ≡ o1 ++ attribute_text (codes "height", points_text (frame_height frame)) →
+    o2 ++ attribute_text (codes "viewBox", box_text frame) ≡ before ++ attributes_text (frame_attributes frame)
+frame_steps before o1 o2 frame h1 h2 =
+    let a : Attribute = (codes "width", points_text (frame_width frame)) in
+    let b : Attribute = (codes "height", points_text (frame_height frame)) in
     let h1 = attribute_step [] a before before o1 (sym (append-nil before)) h1 in
     let h2 = attribute_step (a ∷ []) b before o1 o2 h1 h2 in
-    let h3 = attribute_step (a ∷ b ∷ []) c before o2 o3 h2 h3 in
-    let h4 = attribute_step (a ∷ b ∷ c ∷ []) e before o3 o4 h3 h4 in
-    let h5 = attribute_step (a ∷ b ∷ c ∷ e ∷ []) f before o4 o5 h4 h5 in
-    let h6 = attribute_step (a ∷ b ∷ c ∷ e ∷ f ∷ []) g before o5 o6 h5 h6 in
-    attribute_step (a ∷ b ∷ c ∷ e ∷ f ∷ g ∷ []) (codes "font-size", text_of d.size) before o6 o7 h6 h7
+    attribute_step (a ∷ b ∷ []) (codes "viewBox", box_text frame) before o2 _ h2 refl
+
+-- the line of the outermost element, part by part
+pub svg_written : (before o1 o2 o3 o4 o5 : List ℕ) (d : Drawing)
+    → o1 ≡ before ++ (codes "<svg" ++ attribute_text (codes "xmlns", codes "http://www.w3.org/2000/svg") ++ attribute_text (codes "version", codes "1.1"))
+    → o2 ≡ o1 ++ attributes_text (frame_attributes d.frame) → o3 ≡ o2 ++ attribute_text (codes "font-family", d.family)
+    → o4 ≡ o3 ++ attribute_text (codes "font-size", text_of d.size) → o5 ≡ o4 ++ codes ">\n" → o5 ≡ before ++ svg_text d
+unfolding svg_text
+svg_written before o1 o2 o3 o4 o5 d h1 h2 h3 h4 h5 =
+    h5 ∙ ap (λ (w : List ℕ). w ++ codes ">\n") (h4
+    ∙ ap (λ (w : List ℕ). w ++ attribute_text (codes "font-size", text_of d.size)) (h3
+    ∙ ap (λ (w : List ℕ). w ++ attribute_text (codes "font-family", d.family)) (h2
+    ∙ ap (λ (w : List ℕ). w ++ attributes_text (frame_attributes d.frame)) h1)))
+    ∙ svg_shape before (codes "<svg" ++ attribute_text (codes "xmlns", codes "http://www.w3.org/2000/svg")
+    ++ attribute_text (codes "version", codes "1.1")) (attribute_text (codes "width", points_text (frame_width d.frame)))
+    (attribute_text (codes "height", points_text (frame_height d.frame))) (attribute_text (codes "viewBox", box_text d.frame))
+    (attribute_text (codes "font-family", d.family)) (attribute_text (codes "font-size", text_of d.size)) (codes ">\n")
+  where
+    svg_shape : (before start w h v f s end : List ℕ)
+        → ((((before ++ start) ++ (w ++ (h ++ (v ++ [])))) ++ f) ++ s) ++ end ≡ before ++ ((start ++ (w ++ (h ++ (v ++ (f ++ (s ++ [])))))) ++ end)
+    svg_shape before start w h v f s end = simp (append_assoc, append-nil {A = ℕ})
 
 pub pen_parts : (before o1 o2 o3 o4 o5 o6 : List ℕ) (s : Stroke) (colour ends joins : List ℕ) → colour ≡ rgb_text s.rgb → ends ≡ cap_text s.cap
     → joins ≡ join_text s.join →
@@ -220,10 +228,18 @@ pen_parts before o1 o2 o3 o4 o5 o6 s colour ends joins e f g h1 h2 h3 h4 h5 h6 =
 
 -- ---- the document
 
-pub document_written : (o1 o2 o3 o4 : List ℕ) (d : Drawing) (items : List Item) (i : ℕ) → o1 ≡ declaration ++ codes "\n" → o2 ≡ o1 ++ svg_text d
-    → items ≡ d.items → length items ≤ i → o3 ≡ o2 ++ flat_map item_text (take i items) → o4 ≡ o3 ++ codes "</svg>\n" → o4 ≡ document_text d
+document_shape : (before start svg items end : List ℕ) → (((before ++ start) ++ svg) ++ items) ++ end ≡ before ++ (((start ++ svg) ++ items) ++ end)
+document_shape before start svg items end = simp append_assoc
+
+pub document_written : (before o1 o2 o3 o4 : List ℕ) (d : Drawing) → o1 ≡ before ++ (declaration ++ codes "\n") → o2 ≡ o1 ++ svg_text d
+    → o3 ≡ o2 ++ flat_map item_text d.items → o4 ≡ o3 ++ codes "</svg>\n" → o4 ≡ before ++ document_text d
 unfolding document_text
-document_written o1 o2 o3 o4 d items i e1 e2 is le e3 e4 =
+document_written before o1 o2 o3 o4 d e1 e2 e3 e4 =
     e4 ∙ ap (λ (w : List ℕ). w ++ codes "</svg>\n")
-    (e3 ∙ ap (λ (w : List Item). o2 ++ flat_map item_text w) (take_all i items le ∙ is)
-    ∙ ap (λ (w : List ℕ). w ++ flat_map item_text d.items) (e2 ∙ ap (λ (w : List ℕ). w ++ svg_text d) e1))
+    (e3 ∙ ap (λ (w : List ℕ). w ++ flat_map item_text d.items) (e2 ∙ ap (λ (w : List ℕ). w ++ svg_text d) e1))
+    ∙ document_shape before (declaration ++ codes "\n") (svg_text d) (flat_map item_text d.items) (codes "</svg>\n")
+
+-- the elements of all items, once the loop is at their end
+pub items_written : (before now : List ℕ) (items : List Item) (i : ℕ) → length items ≤ i → now ≡ before ++ flat_map item_text (take i items)
+    → now ≡ before ++ flat_map item_text items
+items_written before now items i le e = e ∙ ap (λ (w : List Item). before ++ flat_map item_text w) (take_all i items le)

@@ -1,11 +1,11 @@
 //! Elements, one a line. Each call writes at the end of `out`, or runs out of memory.
 
-ghost use Rattle.std.specs.Prelude.{◌≡◌, ◌∷◌, ◌++◌, [], OnOk, Some, codes, neg_ℤ};
+ghost use Rattle.std.specs.Prelude.{◌≡◌, ◌∷◌, ◌++◌, [], OnOk, Some, codes, flat_map, neg_ℤ};
 ghost use Rattle.std.specs.List.{AllByRecursion};
 ghost use Rattle.tk_num.specs.Number.{IsScaled};
 ghost use Rattle.tk_num.specs.Text.{text_of};
 ghost use Rattle.tk_item.specs.declared.Item.TheVariants.{Path};
-ghost use Rattle.tk_svg.specs.Document.{IsFamily};
+ghost use Rattle.tk_svg.specs.Document.{IsFamily, size_of};
 ghost use Rattle.tk_svg.specs.Fitting.{Fits, FitsBox};
 ghost use Rattle.tk_svgwrite.specs.Plain.{attribute_text, attributes_text, differing, fill_settings, stroke_settings};
 ghost use Rattle.tk_svgwrite.specs.Plain.{item_text, points_text, numbers_text, box_text, frame_width, frame_height};
@@ -14,19 +14,31 @@ ghost use Rattle.tk_svgwrite.specs.Presentations.{IsKept};
 ghost use Rattle.tk_svgwrite.specs.Ranges.{FillInRange, StrokeInRange, StrokeNumbersInRange, ItemInRange};
 
 use crate::attributes::{
-    close_attribute, open_attribute, put_attribute, put_dashes, put_number_setting, put_setting,
+    close_attribute, open_attribute, put_dashes, put_number_setting, put_setting,
 };
 use crate::presentation::Presentation;
 use crate::values::{
     cap_word, join_word, put_data, put_number, put_pair, put_scaled, rgb_digits, rule_word,
 };
-use std::alloc::AllocError;
+use std::alloc::{AllocError, Global};
 use tk_item::{Drawing, Fill, Frame, Item, Seg, Stroke, Text};
 use tk_num::Scaled;
 
+/// Writes the elements of items.
+pub fn put_items(out: &mut Vec<u8>, alloc: Global, items: &[Item]) -> Result<(), AllocError>
+    ensures text { OnOk result (out.new.items ≡ out.old.items ++ flat_map item_text items.now) }
+    ensures range { OnOk result (AllByRecursion ItemInRange items.now) }
+{
+    let mut presentation = Presentation::new(alloc)?;
+    for item in items {
+        put_item(out, &mut presentation, item)?;
+    }
+    Ok(())
+}
+
 /// Writes the element of an item. Labels are not written. `presentation` is that of the path before.
 #[tactic(auto, unfolding(crate::specs::Plain::item_text))]
-pub fn put_item(
+fn put_item(
     out: &mut Vec<u8>,
     presentation: &mut Presentation,
     item: &Item,
@@ -105,17 +117,25 @@ pub fn put_svg(out: &mut Vec<u8>, drawing: &Drawing) -> Result<(), AllocError>
     ensures text { OnOk result (out.new.items ≡ out.old.items ++ svg_text drawing.now) }
     ensures range { OnOk result (IsScaled drawing.now.size) }
 {
-    let frame = drawing.frame;
-    out.extend_from_slice(b"<svg")?;
-    put_attribute(out, b"xmlns", b"http://www.w3.org/2000/svg")?;
-    put_attribute(out, b"version", b"1.1")?;
-    put_width(out, frame)?;
-    put_height(out, frame)?;
-    put_view_box(out, frame)?;
+    out.extend_from_slice(b"<svg xmlns=\"http://www.w3.org/2000/svg\" version=\"1.1\"")?;
+    put_frame(out, drawing.frame)?;
     put_family(out, &drawing.family)?;
     put_size(out, drawing.size)?;
     out.extend_from_slice(b">\n")?;
     Ok(())
+}
+
+/// Writes the size of the document, and what is seen in it.
+fn put_frame(out: &mut Vec<u8>, frame: Frame) -> Result<(), AllocError>
+    requires top { FitsBox frame.top }
+    requires width { FitsBox (frame_width frame) }
+    requires height { FitsBox (frame_height frame) }
+    ensures { OnOk result (out.new.items ≡ out.old.items ++ attributes_text ((codes "width", points_text (frame_width frame))
+        ∷ (codes "height", points_text (frame_height frame)) ∷ (codes "viewBox", box_text frame) ∷ [])) }
+{
+    put_width(out, frame)?;
+    put_height(out, frame)?;
+    put_view_box(out, frame)
 }
 
 fn put_width(out: &mut Vec<u8>, frame: Frame) -> Result<(), AllocError>
@@ -138,9 +158,17 @@ fn put_points(out: &mut Vec<u8>, name: &[u8], length: i64) -> Result<(), AllocEr
     ensures { OnOk result (out.new.items ≡ out.old.items ++ attribute_text (name.now, points_text length)) }
 {
     open_attribute(out, name)?;
-    put_number(out, length * 800 / 803)?;
+    put_number(out, svg_points(length))?;
     out.extend_from_slice(b"pt")?;
     close_attribute(out)
+}
+
+/// The length in SVG's points.
+fn svg_points(length: i64) -> i64
+    requires { FitsBox length }
+    ensures { result ≡ size_of length }
+{
+    length * 800 / 803
 }
 
 /// Writes the view box, whose y is downward.

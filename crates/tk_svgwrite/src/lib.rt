@@ -6,19 +6,20 @@
 //! downward.
 #![tactic(auto)]
 
-ghost use Rattle.std.specs.Prelude.{◌≡◌, IfOk};
+ghost use Rattle.std.specs.Prelude.{◌≡◌, ◌++◌, IfOk, OnOk};
 ghost use Rattle.std.specs.List.{AllByRecursion};
+ghost use Rattle.tk_num.specs.Number.{IsScaled};
 ghost use Rattle.tk_svg.specs.Document.{IsDocument};
 ghost use Rattle.tk_svg.specs.Fitting.{Fits, IsPath};
 ghost use Rattle.tk_svgwrite.specs.Plain.{document_text};
+ghost use Rattle.tk_svgwrite.specs.Ranges.{ItemInRange};
 
 mod attributes;
 mod elements;
 mod presentation;
 mod values;
 
-use elements::{put_item, put_svg};
-use presentation::Presentation;
+use elements::{put_items, put_svg};
 use std::alloc::{AllocError, Global};
 use tk_item::Drawing;
 
@@ -33,14 +34,22 @@ pub fn write_svg(alloc: Global, drawing: &Drawing) -> Result<Vec<u8>, AllocError
     ensures text { IfOk result (λ v. v.items ≡ document_text drawing.now) }
     ensures means { IfOk result (λ v. IsDocument v.items drawing.now) }
 {
-    let items = drawing.items.as_slice();
-    let mut out = Vec::with_capacity(alloc, items.len().saturating_mul(LINE))?;
-    let mut presentation = Presentation::new(alloc)?;
-    out.extend_from_slice(b"<?xml version=\"1.0\" encoding=\"UTF-8\"?>\n")?;
-    put_svg(&mut out, drawing)?;
-    for item in items {
-        put_item(&mut out, &mut presentation, item)?;
-    }
-    out.extend_from_slice(b"</svg>\n")?;
+    let room = drawing.items.as_slice().len().saturating_mul(LINE);
+    let mut out = Vec::with_capacity(alloc, room)?;
+    put_document(&mut out, alloc, drawing)?;
     Ok(out)
+}
+
+/// Writes the document of a drawing at the end of `out`, or runs out of memory.
+fn put_document(out: &mut Vec<u8>, alloc: Global, drawing: &Drawing) -> Result<(), AllocError>
+    requires { Fits drawing.now }
+    ensures text { OnOk result (out.new.items ≡ out.old.items ++ document_text drawing.now) }
+    ensures size { OnOk result (IsScaled drawing.now.size) }
+    ensures range { OnOk result (AllByRecursion ItemInRange drawing.now.items) }
+{
+    out.extend_from_slice(b"<?xml version=\"1.0\" encoding=\"UTF-8\"?>\n")?;
+    put_svg(out, drawing)?;
+    put_items(out, alloc, drawing.items.as_slice())?;
+    out.extend_from_slice(b"</svg>\n")?;
+    Ok(())
 }

@@ -4,7 +4,7 @@ use Rattle.std.specs.List.{All}
 use Rattle.tk_svgwrite.specs.Plain.{item_text}
 use Rattle.tk_svgwrite.specs.Presentations.{IsKept}
 use Rattle.tk_svgwrite.specs.Ranges.{ItemInRange}
-use Rattle.tk_svgwrite.proofs.write_svg.Given as goal
+use Rattle.tk_svgwrite.proofs.elements.put_items.Given as goal
 
 -- the items so far are written, and are in range; the presentation is that of the bytes that are kept
 abbrev pub invariant-loop-item : goal.invariant-loop-item
