@@ -81,6 +81,7 @@ pub fn compile(alloc: Global, source: &[u8], budget: u64) -> Result<Compiled, Re
     ensures place { IfErr result (λ e. OnFault e (λ f. f.at ≤ length source.now)) }
     ensures text { IfErr result (λ e. OnFault e (λ f. IsUtf8 (take f.at source.now))) }
 {
+    let family = family(alloc)?;
     let Lexed { toks, names } = lex(alloc, source)?;
     let mut input = Input::new(alloc, Body::from_vec(toks)?, source.len() as u32)?;
     let mut drawer = Drawer {
@@ -89,7 +90,7 @@ pub fn compile(alloc: Global, source: &[u8], budget: u64) -> Result<Compiled, Re
         frame: None,
     };
     document(&mut drawer, &mut input)?;
-    Ok(compiled(alloc, drawer)?)
+    Ok(compiled(drawer, family))
 }
 
 /// Draws the picture of a whole source.
@@ -146,17 +147,17 @@ fn expect_nothing(input: &mut Input) -> Result<(), Fault>
     }
 }
 
-/// What a picture has drawn and paid.
-fn compiled(alloc: Global, drawer: Drawer) -> Result<Compiled, AllocError>
-    requires { IsSound drawer }
-    ensures compiled { IfOk result (λ c. c ≡ compiled (picture_of drawer no_path)) }
-    ensures fits { IfOk result (λ c. Fits c.drawing) }
-    ensures paths { IfOk result (λ c. AllByRecursion IsPath c.drawing.items) }
+/// What a picture has drawn and paid, with the name of the font.
+fn compiled(drawer: Drawer, family: Text) -> Compiled
+    requires sound { IsSound drawer }
+    requires family { family ≡ codes "monospace" }
+    ensures compiled { result ≡ compiled (picture_of drawer no_path) }
+    ensures fits { Fits result.drawing }
+    ensures paths { AllByRecursion IsPath result.drawing.items }
 {
-    let family = family(alloc)?;
     let units = drawer.state.used();
     let Drawer { items, frame, .. } = drawer;
-    Ok(Compiled {
+    Compiled {
         drawing: Drawing {
             frame: whole_frame(frame),
             family,
@@ -164,7 +165,7 @@ fn compiled(alloc: Global, drawer: Drawer) -> Result<Compiled, AllocError>
             items,
         },
         units,
-    })
+    }
 }
 
 /// The name of the font.

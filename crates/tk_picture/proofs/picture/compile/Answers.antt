@@ -59,8 +59,8 @@ returns-clause-compiled c =
     let is = ran_over lexed.names c.args.budget c.font_units.result c.in_ok-new.field-0 c.in_ok-input.input lexed.toks.items
     (length c.args.source.now) c.in_ok-new.ensures c.font_units.ensures (rw c.in_ok-from_vec.ensures at c.in_ok-input.ensures) in
     let h = drawing_outcome c.args.budget c.args.source.now lexed.names lexed.toks.items c.in_ok-toks.ensures.tokens c.in_ok-toks.ensures.listed
-    c.in_ok-toks.ensures.words c.in_ok-toks.ensures.once c.in_ok-compiled.field-0 (sym is ∙ c.in_ok-document.ensures.gives
-    ∙ ap (λ (d : Compiled). (let a : Answer Compiled = Ok d in a)) (sym c.in_ok-compiled.ensures.compiled)) in
+    c.in_ok-toks.ensures.words c.in_ok-toks.ensures.once c.compiled.result (sym is ∙ c.in_ok-document.ensures.gives
+    ∙ ap (λ (d : Compiled). (let a : Answer Compiled = Ok d in a)) (sym c.compiled.ensures.compiled)) in
     search rules
 
 pub document-requires : goal.document-requires
