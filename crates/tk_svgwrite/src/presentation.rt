@@ -84,16 +84,33 @@ fn are_same(one: &Option<Stroke>, other: &Option<Stroke>) -> bool
     }
 }
 
+/// Whether two strokes are the same.
 fn is_same(one: &Stroke, other: &Stroke) -> bool
     ensures { IsTrue result → one.now ≡ other.now }
 {
-    if one.rgb != other.rgb || one.cap != other.cap || one.join != other.join {
-        return false;
-    }
-    if one.width != other.width || one.miter != other.miter || one.phase != other.phase {
+    if !is_painted_alike(one, other) || !is_measured_alike(one, other) {
         return false;
     }
     one.dash.as_slice() == other.dash.as_slice()
+}
+
+/// Whether two strokes have the same colour and the same shape of ends and corners.
+fn is_painted_alike(one: &Stroke, other: &Stroke) -> bool
+    ensures rgb { IsTrue result → one.now.rgb ≡ other.now.rgb }
+    ensures cap { IsTrue result → one.now.cap ≡ other.now.cap }
+    ensures join { IsTrue result → one.now.join ≡ other.now.join }
+{
+    one.rgb == other.rgb && one.cap == other.cap && one.join == other.join
+}
+
+/// Whether two strokes have the same numbers, but for their dashes.
+#[tactic(auto, using(crate::proofs::Strokes::same_number))]
+fn is_measured_alike(one: &Stroke, other: &Stroke) -> bool
+    ensures width { IsTrue result → one.now.width ≡ other.now.width }
+    ensures miter { IsTrue result → one.now.miter ≡ other.now.miter }
+    ensures phase { IsTrue result → one.now.phase ≡ other.now.phase }
+{
+    one.width == other.width && one.miter == other.miter && one.phase == other.phase
 }
 
 /// The same stroke once more.
