@@ -1,11 +1,12 @@
 -- Matrices that have an inverse, and what is found by it.
-use Rattle.std.proofs.Common.{◌≡◌, ◌≢◌, ℕ, ℤ, pos, negsuc, ◌*ℤ◌, int_div, unsigned_abs, false, eqb, refl, sym, ap, ◌∙◌, arith, Result, SFits, to_z}
+use Rattle.std.proofs.Common.{◌≡◌, ◌≢◌, ◌≤◌, ℕ, ℤ, pos, negsuc, ◌*ℤ◌, int_div, unsigned_abs, false, eqb, refl, sym, ap, ◌∙◌, arith, Result, Err, SFits, to_z}
 use Rattle.std.proofs.Common.{of_z}
 use Rattle.std.specs.Int.{w64, w128}
 use Rattle.std.proofs.lemmas.Bool.Decides.{nat_tests}
-use Rattle.std.proofs.lemmas.Int.{to_z-of_z}
+use Rattle.std.proofs.lemmas.Int.{to_z-of_z, ints}
 use Rattle.tk_item.specs.declared.Point.{Point}
 use Rattle.tk_affine.specs.declared.AffFault.{AffFault}
+use Rattle.tk_affine.specs.declared.AffFault.TheVariants.{Singular}
 use Rattle.tk_affine.specs.declared.Matrix.{Matrix}
 use Rattle.tk_affine.specs.Inverses.{determinant, by_inverse}
 
@@ -32,3 +33,18 @@ share_is r n d r' n' d' s f er en ed e =
     ∙ ap (λ z. int_div (z *ℤ to_z w64 (of_z w64 n)) (to_z w64 (of_z w64 d))) er
     ∙ ap (λ z. int_div (r' *ℤ z) (to_z w64 (of_z w64 d))) en
     ∙ ap (λ z. int_div (r' *ℤ n') z) ed
+
+-- where it is 0, there is no inverse
+no_bits : (z : ℤ) → unsigned_abs z ≤ 4611686009837453316 → of_z w64 z ≡ 0 → unsigned_abs z ≡ 0
+no_bits (pos n) le e = e
+no_bits (negsuc n) le e = absurd (omega (arith, ints))
+
+pub no_inverse : (m : Matrix) (found : Result Point AffFault) (whole : ℤ) → whole ≡ determinant m → unsigned_abs whole ≤ 4611686009837453316
+    → of_z w64 whole ≡ 0 → Err Singular ≡ by_inverse m found
+no_inverse m found whole e le none =
+    let zero : unsigned_abs (determinant m) ≡ 0 = rw e at (no_bits whole le none) in
+    sym (rw zero refl)
+
+-- a determinant that isn't 0 and is passed on may divide
+pub divisor_passed_on : (whole : ℤ) → SFits w64 whole → of_z w64 whole ≢ 0 → 1 ≤ unsigned_abs (to_z w64 (of_z w64 whole))
+divisor_passed_on whole fits ne = rw (to_z-of_z w64 whole fits) (let some = some_bits whole ne in omega (arith, some))

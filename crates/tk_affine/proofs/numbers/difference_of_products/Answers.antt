@@ -2,7 +2,7 @@ use Rattle.std.proofs.Common.{◌≡◌, ◌∙◌, ap, sym, subst, ℤ, ◌-ℤ
 use Rattle.std.specs.Int.{w64}
 use Rattle.std.proofs.lemmas.Int.{to_z-of_z, fits_signed_from_abs}
 use Rattle.tk_num.specs.Number.{IsScaled}
-use Rattle.tk_affine.proofs.Wide.{wrapped_product, product_bound, difference_bound}
+use Rattle.tk_affine.proofs.Wide.{wrapped_product, wider_product_fits, product_bound, difference_bound}
 use Rattle.tk_affine.proofs.numbers.difference_of_products.Goals as goal
 
 small : (a x b y : ℤ) → IsScaled a → unsigned_abs x ≤ 2147483646 → IsScaled b → unsigned_abs y ≤ 2147483646
@@ -43,3 +43,9 @@ returns-clause-within c =
     subst (λ z. unsigned_abs z ≤ 4611686009837453316)
     (sym (value_is c.sp.result c.args.x c.sp-2.result c.args.y c.sp.ensures.range c.requires.x c.sp-2.ensures.range c.requires.y))
     (small c.sp.result c.args.x c.sp-2.result c.args.y c.sp.ensures.range c.requires.x c.sp-2.ensures.range c.requires.y)
+
+pub overflow_mul-result : goal.overflow_mul-result
+overflow_mul-result c = wider_product_fits c.sp.result c.args.x c.sp.ensures.range c.requires.x
+
+pub overflow_mul-result-2 : goal.overflow_mul-result-2
+overflow_mul-result-2 c = wider_product_fits c.sp-2.result c.args.y c.sp-2.ensures.range c.requires.y
