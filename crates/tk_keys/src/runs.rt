@@ -211,8 +211,8 @@ impl State {
         Ok(())
     }
 
-    /// Runs a key list with the default path from which its command has it begin. The running default path stays, except
-    /// behind `\pgfkeysalso`.
+    /// Runs a key list with the default path from which its command has it begin. The running default path stays,
+    /// except behind `\pgfkeysalso`.
     #[cycle(run)]
     fn run_keys_from(
         &mut self,

@@ -159,8 +159,8 @@ impl Drawer {
         self.point_of_text(&text, sign.start(from), at)
     }
 
-    /// The point of a coordinate whose text was expanded and whose `(` stands at that place, relative to a point if there
-    /// is one.
+    /// The point of a coordinate whose text was expanded and whose `(` stands at that place, relative to a point if
+    /// there is one.
     fn point_of_text(&self, text: &[Tok], from: Option<Point>, at: u32) -> Result<Point, Refusal>
         ensures { Gives (λ point. point) result (point_of evaluated self.now.state.font self.now.state.graphics.look
             self.now.state.graphics.matrix at from text.now) }

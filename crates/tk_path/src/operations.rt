@@ -184,7 +184,8 @@ impl Drawer {
     fn control_point(&mut self, end: &Point, control: Control) -> Result<Point, Refusal>
         ensures gives { (path : ACurrentPath) (rest : Unread)
             → Gives (λ point. reached_at point self.new path rest) result
-            (spec.control_point (given_to self.old) end.now (control_of control) (configuration_of self.old path rest)) }
+            (spec.control_point (given_to self.old) end.now (control_of control)
+            (configuration_of self.old path rest)) }
         ensures pays { OnOk result (OnlyPays self.old self.new) }
     {
         match control {

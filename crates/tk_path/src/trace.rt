@@ -225,8 +225,8 @@ impl CurrentPath {
         self.add_arc(origin, matrix, sweep, rx, ry)
     }
 
-    /// Adds the curves of an arc from the current point, once pieces may follow, and stands at their end. Behind a fault
-    /// nothing is said of the path.
+    /// Adds the curves of an arc from the current point, once pieces may follow, and stands at their end. Behind a
+    /// fault nothing is said of the path.
     fn add_arc(
         &mut self,
         origin: &Point,

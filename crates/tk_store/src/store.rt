@@ -1,6 +1,7 @@
 //! Macros and keys in levels.
 
-ghost use Rattle.std.specs.Prelude.{◌≡◌, ◌+◌, ◌<◌, ◌≤◌, nat_eq, if◌then◌else◌, [], ◌∷◌, ◌++◌, length, reverse, IfOk, OnOk, OnErr};
+ghost use Rattle.std.specs.Prelude.{◌≡◌, ◌+◌, ◌<◌, ◌≤◌, nat_eq, if◌then◌else◌, [], ◌∷◌, ◌++◌};
+ghost use Rattle.std.specs.Prelude.{length, reverse, IfOk, OnOk, OnErr};
 ghost use Rattle.std.specs.Vec.{vec_len, vec_capacity};
 ghost use Rattle.std.specs.Option.{option_copied};
 ghost use Rattle.std.specs.FinMap as map;

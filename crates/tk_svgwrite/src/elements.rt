@@ -130,7 +130,8 @@ fn put_frame(out: &mut Vec<u8>, frame: Frame) -> Result<(), AllocError>
     requires top { FitsBox frame.top }
     requires width { FitsBox (frame_width frame) }
     requires height { FitsBox (frame_height frame) }
-    ensures { OnOk result (out.new.items ≡ out.old.items ++ attributes_text ((codes "width", points_text (frame_width frame))
+    ensures { OnOk result (out.new.items ≡ out.old.items
+        ++ attributes_text ((codes "width", points_text (frame_width frame))
         ∷ (codes "height", points_text (frame_height frame)) ∷ (codes "viewBox", box_text frame) ∷ [])) }
 {
     put_width(out, frame)?;
@@ -138,16 +139,20 @@ fn put_frame(out: &mut Vec<u8>, frame: Frame) -> Result<(), AllocError>
     put_view_box(out, frame)
 }
 
+/// Writes how wide the document is.
 fn put_width(out: &mut Vec<u8>, frame: Frame) -> Result<(), AllocError>
     requires { FitsBox (frame_width frame) }
-    ensures { OnOk result (out.new.items ≡ out.old.items ++ attribute_text (codes "width", points_text (frame_width frame))) }
+    ensures { OnOk result (out.new.items ≡ out.old.items
+        ++ attribute_text (codes "width", points_text (frame_width frame))) }
 {
     put_points(out, b"width", frame.right - frame.left)
 }
 
+/// Writes how high the document is.
 fn put_height(out: &mut Vec<u8>, frame: Frame) -> Result<(), AllocError>
     requires { FitsBox (frame_height frame) }
-    ensures { OnOk result (out.new.items ≡ out.old.items ++ attribute_text (codes "height", points_text (frame_height frame))) }
+    ensures { OnOk result (out.new.items ≡ out.old.items
+        ++ attribute_text (codes "height", points_text (frame_height frame))) }
 {
     put_points(out, b"height", frame.top - frame.bottom)
 }

@@ -50,13 +50,15 @@ pub along_first-part-requires-clause-x : goal.along_first-part-requires-clause-x
 along_first-part-requires-clause-x c = bound_passed_on c.difference.result 2147483646 (record { sfits = c.difference.type_inv }) c.difference.ensures.within
 
 pub along_first-part-requires-clause-y : goal.along_first-part-requires-clause-y
-along_first-part-requires-clause-y c = bound_passed_on c.difference-2.result 2147483646 (record { sfits = c.difference-2.type_inv }) c.difference-2.ensures.within
+along_first-part-requires-clause-y c =
+    bound_passed_on c.difference-2.result 2147483646 (record { sfits = c.difference-2.type_inv }) c.difference-2.ensures.within
 
 pub share-requires-clause-r : goal.share-requires-clause-r
 share-requires-clause-r c = bound_passed_on c.sp.result 1073741823 (record { sfits = c.sp.type_inv }) c.sp.ensures.range
 
 pub share-requires-clause-n : goal.share-requires-clause-n
-share-requires-clause-n c = bound_passed_on c.along_first-part.result 4611686009837453316 (record { sfits = c.along_first-part.type_inv }) c.along_first-part.ensures.within
+share-requires-clause-n c =
+    bound_passed_on c.along_first-part.result 4611686009837453316 (record { sfits = c.along_first-part.type_inv }) c.along_first-part.ensures.within
 
 pub share-requires-clause-d : goal.share-requires-clause-d
 share-requires-clause-d c = divisor_passed_on c.determinant-whole.result (record { sfits = c.determinant-whole.type_inv }) c.if-whole-eq0.false
@@ -68,7 +70,8 @@ pub share-requires-2-clause-r : goal.share-requires-2-clause-r
 share-requires-2-clause-r c = bound_passed_on c.sp-2.result 1073741823 (record { sfits = c.sp-2.type_inv }) c.sp-2.ensures.range
 
 pub share-requires-2-clause-n : goal.share-requires-2-clause-n
-share-requires-2-clause-n c = bound_passed_on c.along_first-part.result 4611686009837453316 (record { sfits = c.along_first-part.type_inv }) c.along_first-part.ensures.within
+share-requires-2-clause-n c =
+    bound_passed_on c.along_first-part.result 4611686009837453316 (record { sfits = c.along_first-part.type_inv }) c.along_first-part.ensures.within
 
 pub share-requires-2-clause-d : goal.share-requires-2-clause-d
 share-requires-2-clause-d c = divisor_passed_on c.determinant-whole.result (record { sfits = c.determinant-whole.type_inv }) c.if-whole-eq0.false

@@ -56,13 +56,16 @@ pub share-x-requires-clause-d : goal.share-x-requires-clause-d
 share-x-requires-clause-d c = divisor_passed_on c.determinant-whole.result (record { sfits = c.determinant-whole.type_inv }) c.if-whole-eq0.false
 
 pub along_second-requires-clause-x : goal.along_second-requires-clause-x
-along_second-requires-clause-x c = bound_passed_on c.difference-dx.result 2147483646 (record { sfits = c.difference-dx.type_inv }) c.difference-dx.ensures.within
+along_second-requires-clause-x c =
+    bound_passed_on c.difference-dx.result 2147483646 (record { sfits = c.difference-dx.type_inv }) c.difference-dx.ensures.within
 
 pub along_second-requires-clause-y : goal.along_second-requires-clause-y
-along_second-requires-clause-y c = bound_passed_on c.difference-dy.result 2147483646 (record { sfits = c.difference-dy.type_inv }) c.difference-dy.ensures.within
+along_second-requires-clause-y c =
+    bound_passed_on c.difference-dy.result 2147483646 (record { sfits = c.difference-dy.type_inv }) c.difference-dy.ensures.within
 
 pub share-y-requires-clause-n : goal.share-y-requires-clause-n
-share-y-requires-clause-n c = bound_passed_on c.along_second.result 4611686009837453316 (record { sfits = c.along_second.type_inv }) c.along_second.ensures.within
+share-y-requires-clause-n c =
+    bound_passed_on c.along_second.result 4611686009837453316 (record { sfits = c.along_second.type_inv }) c.along_second.ensures.within
 
 pub share-y-requires-clause-d : goal.share-y-requires-clause-d
 share-y-requires-clause-d c = divisor_passed_on c.determinant-whole.result (record { sfits = c.determinant-whole.type_inv }) c.if-whole-eq0.false

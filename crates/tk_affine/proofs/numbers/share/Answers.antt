@@ -22,10 +22,12 @@ returns-clause-within c = share_within c.args.r c.args.n c.args.d _ c.requires.r
 
 pub overflow_mul-result : goal.overflow_mul-result
 overflow_mul-result c =
-    wide_product_fits c.from.result c.from-2.result c.args.r c.args.n (c.from.ensures ∙ to_z-of_z w64 c.args.r c.ranges.r) (c.from-2.ensures ∙ to_z-of_z w64 c.args.n c.ranges.n)
+    wide_product_fits c.from.result c.from-2.result c.args.r c.args.n (c.from.ensures ∙ to_z-of_z w64 c.args.r c.ranges.r)
+    (c.from-2.ensures ∙ to_z-of_z w64 c.args.n c.ranges.n)
     c.requires.r c.requires.n
 
 pub nonzero_div-result : goal.nonzero_div-result
 nonzero_div-result c =
-    wide_share_fits c.from.result c.from-2.result c.from-3.result c.args.r c.args.n c.args.d (c.from.ensures ∙ to_z-of_z w64 c.args.r c.ranges.r) (c.from-2.ensures ∙ to_z-of_z w64 c.args.n c.ranges.n)
+    wide_share_fits c.from.result c.from-2.result c.from-3.result c.args.r c.args.n c.args.d (c.from.ensures ∙ to_z-of_z w64 c.args.r c.ranges.r)
+    (c.from-2.ensures ∙ to_z-of_z w64 c.args.n c.ranges.n)
     (c.from-3.ensures ∙ to_z-of_z w64 c.args.d c.ranges.d) c.requires.r c.requires.n c.requires.d (abs_fits c.args.d c.ranges.d)

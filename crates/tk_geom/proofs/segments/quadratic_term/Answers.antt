@@ -17,5 +17,6 @@ returns-clause-value c =
 
 pub returns-clause-most : goal.returns-clause-most
 returns-clause-most c =
-    quadratic_term_within c.from.result c.from-2.result c.args.times c.product_of_two.result c.difference.result c.from.ensures c.from-2.ensures c.requires.times
+    quadratic_term_within c.from.result c.from-2.result c.args.times c.product_of_two.result c.difference.result c.from.ensures c.from-2.ensures
+    c.requires.times
     c.product_of_two.ensures.within c.difference.ensures.within
