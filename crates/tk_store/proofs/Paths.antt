@@ -1,17 +1,16 @@
 -- Keys whose paths are texts, by the bytes of these.
 use Rattle.std.proofs.Common.{◌≡◌, ℕ, zero, suc, ◌+◌, Bool, true, false, cond, not, List, [], ◌∷◌, ◌++◌, slice_get, position, Option, Some, None}
-use Rattle.std.proofs.Common.{◌-◌, ◌<◌, length, take, IsSome, is_some, String, refl, sym, ap, ◌∙◌, arith}
+use Rattle.std.proofs.Common.{IsSome, is_some, String, refl, sym, ap, ◌∙◌, arith}
 use Rattle.std.specs.String.{string_bytes}
 use Rattle.std.specs.Str.{bytes_eq}
 use Rattle.std.specs.List.{position_or_len}
 use Rattle.std.specs.Map.{lookup, keys_of, values_of}
-use Rattle.std.specs.Option.{option_to_list}
-use Rattle.std.proofs.lemmas.List.{map-append, take-map, length-map}
+use Rattle.std.proofs.lemmas.List.{map-append}
 use Rattle.indexmap.specs.IndexMap.{insert_entry, set_value_at}
 use Rattle.indexmap.proofs.MapLemmas.{Found-position, absent_from_lookup, insert_entry-absent}
 use Rattle.tk_store.specs.declared.Entry.{Entry}
 use Rattle.tk_store.specs.Paths.{by_bytes}
-use Rattle.tk_store.proofs.Places.{replaced_back, last_taken}
+use Rattle.tk_store.proofs.Places.{replaced_back}
 
 module _ {A : Type 0} where
   -- a write at a place
@@ -21,16 +20,6 @@ module _ {A : Type 0} where
   written_at (e ∷ es) zero entry = refl
   written_at (e ∷ es) (suc i) entry =
       ap (λ (fs : List (List ℕ × Entry)). (string_bytes e.0, e.1) ∷ fs) (written_at es i entry)
-
-  -- the last path is taken, where there is one
-  pub path_taken : (es fs : List (String A × Entry)) (last : Option (String A × Entry))
-      → es ≡ fs ++ option_to_list last
-      → (0 < length es → IsSome last)
-      → by_bytes fs ≡ take (length (by_bytes es) - 1) (by_bytes es)
-  path_taken es fs last are some =
-      ap by_bytes (last_taken es fs last are some)
-      ∙ sym (take-map _ (length es - 1) es)
-      ∙ ap (λ (n : ℕ). take (n - 1) (by_bytes es)) (sym (length-map es _))
 
   values_stay : (es : List (String A × Entry)) → values_of (by_bytes es) ≡ values_of es
   values_stay [] = refl

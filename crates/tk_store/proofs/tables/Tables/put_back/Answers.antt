@@ -2,10 +2,10 @@ use Rattle.std.proofs.Common.{ℕ, List, ap, sym, ◌∙◌}
 use Rattle.tk_store.specs.declared.Entry.{Entry}
 use Rattle.tk_store.specs.declared.Macro.{Macro}
 use Rattle.tk_store.specs.declared.tables.Saved.{Saved}
-use Rattle.tk_store.specs.declared.tables.Saved.TheVariants.{Macro as Replaced, NoMacro, Key as ReplacedKey, NoKey}
+use Rattle.tk_store.specs.declared.tables.Saved.TheVariants.{Macro as Replaced, NoMacro, Key as ReplacedKey}
 use Rattle.tk_store.specs.Paths.{by_bytes}
 use Rattle.tk_store.specs.Undo.{Tables, before}
-use Rattle.tk_store.proofs.Paths.{written_at, path_taken}
+use Rattle.tk_store.proofs.Paths.{written_at}
 use Rattle.tk_store.proofs.Places.{last_taken}
 use Rattle.tk_store.proofs.tables.Tables.put_back.Goals as goal
 
@@ -28,11 +28,3 @@ returns-in-Key-clause-tables g c =
     ap (λ (es : List (List ℕ × Entry)). (let t : Tables = record { macros = c.self.inside.macros.entries; keys = es } in t)) keys
     ∙ ap (before (ReplacedKey c.in-Key.place c.in-Key.old)) c.self.view_is
     ∙ ap (λ (s : Saved). before s c.args.self.now) (sym c.in-Key.is)
-
-pub returns-in-NoKey-clause-tables : goal.returns-in-NoKey-clause-tables
-returns-in-NoKey-clause-tables g c =
-    let keys = path_taken c.self.inside.keys.entries c.pop-in-NoKey.new.self.entries c.pop-in-NoKey.result
-    c.pop-in-NoKey.ensures.entries c.pop-in-NoKey.ensures.found.1 in
-    ap (λ (es : List (List ℕ × Entry)). (let t : Tables = record { macros = c.self.inside.macros.entries; keys = es } in t)) keys
-    ∙ ap (before NoKey) c.self.view_is
-    ∙ ap (λ (s : Saved). before s c.args.self.now) (sym c.in-NoKey.is)
