@@ -11,7 +11,8 @@ use tk_item::{Point, Seg, Segs};
 use tk_keytext::last_part;
 use tk_num::Scaled;
 
-fn point(x: i64, y: i64) -> Result<Point, Fail> {
+/// The point of two numbers of scaled points.
+pub(crate) fn point(x: i64, y: i64) -> Result<Point, Fail> {
     Ok(Point {
         x: Scaled::new(x).ok_or("out of range")?,
         y: Scaled::new(y).ok_or("out of range")?,

@@ -2,10 +2,10 @@
 
 ghost use Rattle.std.specs.Prelude.{◌≤◌, unsigned_abs};
 
+use crate::pieces::point;
 use std::test::Fail;
 use tk_affine::AffFault;
 use tk_geom::{Last, on_segment};
-use tk_item::Point;
 use tk_num::Scaled;
 
 /// The greatest number.
@@ -84,13 +84,6 @@ const PLACES: [(Drawn, i64, Found); 30] = [
     ),
     (Drawn::WideCurve, 65_537, Err(AffFault::TooLarge)),
 ];
-
-fn point(x: i64, y: i64) -> Result<Point, Fail> {
-    Ok(Point {
-        x: Scaled::new(x).ok_or("out of range")?,
-        y: Scaled::new(y).ok_or("out of range")?,
-    })
-}
 
 /// A curve by its four points.
 fn curve(points: [(i64, i64); 4]) -> Result<Last, Fail> {
