@@ -251,7 +251,7 @@ impl State {
         ensures high { steps.new ≤ steps.old + self.old.levels.top.settings }
     {
         self.store.close(steps);
-        put_back(&mut self.saved, &mut self.graphics);
+        restore(&mut self.saved, &mut self.graphics);
     }
 
     /// Closes the last level and counts no steps. This takes no memory.
@@ -266,7 +266,7 @@ impl State {
         } }
     {
         self.store.close_uncounted();
-        put_back(&mut self.saved, &mut self.graphics);
+        restore(&mut self.saved, &mut self.graphics);
     }
 
     /// Sets whether what follows is drawn and filled. This takes no memory.
@@ -293,7 +293,7 @@ impl State {
 }
 
 /// The last of the saved ones is again where and how what follows is drawn.
-fn put_back(saved: &mut Vec<GraphicsState>, graphics: &mut GraphicsState)
+fn restore(saved: &mut Vec<GraphicsState>, graphics: &mut GraphicsState)
     requires { 0 < length saved.old.items }
     ensures items { saved.old.items ≡ saved.new.items ++ graphics.new ∷ [] }
     ensures capacity { vec_capacity saved.new ≡ vec_capacity saved.old }

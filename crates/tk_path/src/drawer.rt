@@ -72,12 +72,12 @@ impl Drawer {
         };
         let look = &self.state.graphics().look;
         self.frame = widen(self.frame, segs.as_slice(), look_reach(look));
-        paint(&mut self.items, segs, look)
+        push_path(&mut self.items, segs, look)
     }
 }
 
 /// Puts a path at the end of items, if a look fills or draws it.
-fn paint(items: &mut Items, segs: Segs, look: &Look) -> Result<(), AllocError>
+fn push_path(items: &mut Items, segs: Segs, look: &Look) -> Result<(), AllocError>
     requires { BeginsWithMove segs }
     ensures items { OnOk result (items.new ≡ items.old ++ pictures.path_items look.now segs) }
     ensures fits { OnOk result (AllByRecursion FitsItem items.old → AllByRecursion FitsItem items.new) }

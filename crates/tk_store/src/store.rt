@@ -78,7 +78,7 @@ impl Store {
     {
         self.saved.reserve(1)?;
         let replaced = self.tables.set_macro(name, value)?;
-        keep(&mut self.saved, self.marks.len(), replaced);
+        keep_replaced(&mut self.saved, self.marks.len(), replaced);
         Ok(())
     }
 
@@ -90,7 +90,7 @@ impl Store {
     {
         self.saved.reserve(1)?;
         let replaced = self.tables.set_key(path, entry)?;
-        keep(&mut self.saved, self.marks.len(), replaced);
+        keep_replaced(&mut self.saved, self.marks.len(), replaced);
         Ok(())
     }
 
@@ -143,7 +143,7 @@ impl Store {
 }
 
 /// Keeps what a setting replaced, where any levels are open. There is room for it.
-fn keep(saved: &mut Vec<Saved>, levels: usize, replaced: Saved)
+fn keep_replaced(saved: &mut Vec<Saved>, levels: usize, replaced: Saved)
     requires { vec_len saved.old < vec_capacity saved.old }
     ensures { saved.new.items ≡ (if nat_eq levels 0 then saved.old.items else saved.old.items ++ replaced ∷ []) }
 {
@@ -163,7 +163,7 @@ fn undo<L: Ledger>(tables: &mut Tables, saved: &mut Vec<Saved>, mark: usize, ste
 {
     while saved.len() > mark {
         if let Some(newest) = saved.pop() {
-            tables.put_back(newest, steps);
+            tables.restore(newest, steps);
         }
     }
 }

@@ -97,7 +97,7 @@ impl Tables {
     }
 
     /// Undoes a setting, which is a step.
-    pub(crate) fn put_back<L: Ledger>(&mut self, saved: Saved, steps: &mut Steps<L>)
+    pub(crate) fn restore<L: Ledger>(&mut self, saved: Saved, steps: &mut Steps<L>)
         ensures tables { self.new ≡ before saved self.old }
         ensures cost { steps.new ≡ steps.old + 1 }
     {

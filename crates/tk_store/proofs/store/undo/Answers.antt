@@ -16,11 +16,11 @@ loop-saved-preserved-in-Some g c =
     record {
       enough = enough;
       back = one_undone (reverse c.loop-saved.saved.items) (reverse c.pop.new.self.items) c.in-Some.newest c.args.mark are enough
-          c.loop-saved.tables c.put_back.new.self c.put_back.ensures.tables
+          c.loop-saved.tables c.restore.new.self c.restore.ensures.tables
           ∙ c.loop-saved.invariant.back;
       left = one_dropped (reverse c.loop-saved.saved.items) (reverse c.pop.new.self.items) c.in-Some.newest c.args.mark are enough
           ∙ c.loop-saved.invariant.left;
-      cost = omega (arith, count, c.loop-saved.invariant.cost, c.put_back.ensures.cost);
+      cost = omega (arith, count, c.loop-saved.invariant.cost, c.restore.ensures.cost);
     }
 
 few : (g : Over) (c : After-loop-saved g) → length (reverse c.loop-saved.saved.items) ≤ c.args.mark

@@ -7,7 +7,7 @@ use Rattle.tk_store.specs.Paths.{by_bytes}
 use Rattle.tk_store.specs.Undo.{Tables, before}
 use Rattle.tk_store.proofs.Paths.{written_at}
 use Rattle.tk_store.proofs.Places.{last_taken}
-use Rattle.tk_store.proofs.tables.Tables.put_back.Goals as goal
+use Rattle.tk_store.proofs.tables.Tables.restore.Goals as goal
 
 pub returns-in-Macro-clause-tables : goal.returns-in-Macro-clause-tables
 returns-in-Macro-clause-tables g c =
