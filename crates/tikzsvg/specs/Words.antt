@@ -6,7 +6,7 @@ use Rattle.tk_characters.specs.Characters.{dash}
 
 -- what is asked for
 pub data Command : Type 0 where
-  -- the SVG document of a file, with so many units to pay for its macros
+  -- the SVG document of a file, whose run may cost so many units
   Render : (file : List ℕ) (budget : ℕ) → Command
 
 -- a name of a file: not empty, and with a `-` in front only where it is `-` alone, which is

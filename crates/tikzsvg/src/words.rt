@@ -13,13 +13,13 @@ use std::env::Args;
 use std::io;
 use std::io::ErrorKind;
 
-/// How many units `render FILE` may pay for the expansion of macros.
+/// How many units a run of `render FILE` may pay: for calls of macros, the code of keys, and the lines of grids.
 const BUDGET: u64 = 10_000_000;
 
 /// What the words ask for.
 #[derive(Clone, Copy)]
 pub enum Command<'a> {
-    /// The SVG document of a file, with so many units to pay for its macros.
+    /// The SVG document of a file, whose run may cost so many units.
     Render { file: &'a str, budget: u64 },
 }
 
@@ -76,8 +76,10 @@ pub fn command_of(words: &[String]) -> Option<Command<'_>>
     }
     let (word, file) = (words[0].as_str(), words[1].as_str());
     if is_render(word, file) {
-        let budget = BUDGET;
-        Some(Command::Render { file, budget })
+        Some(Command::Render {
+            file,
+            budget: BUDGET,
+        })
     } else {
         None
     }

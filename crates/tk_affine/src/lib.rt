@@ -29,21 +29,10 @@ pub struct Matrix {
     pub ty: Scaled,
 }
 
-/// The matrix under which each point is its own image.
-impl Default for Matrix {
-    ghost use Rattle.std.specs.Prelude.{◌≡◌};
-    ghost use Rattle.tk_affine.specs.Steps.{unmoved};
-
-    ghost is_default = { λ m. m ≡ unmoved };
-
-    fn default() -> Matrix {
-        identity()
-    }
-}
-
 /// One step of a transformation. `Shift` has scaled points, `Rotate` an angle of 65536ths of a degree,
-/// counterclockwise, `Scale` and `Slant` factors of 65536ths, that of x first. `Slant` takes (x,y) to
-/// (x + f*y, y + g*x), where f is its first factor and g its second.
+/// anticlockwise, `Scale` and `Slant` factors of 65536ths, that of x first. `Slant` takes (x,y) to
+/// (x + f*y, y + g*x), where f is its first factor and g its second. `Cm` takes each point to its image
+/// under the matrix.
 #[derive(Clone, Copy, PartialEq, Eq)]
 pub enum Step {
     Shift(Scaled, Scaled),

@@ -34,7 +34,7 @@ pub fn difference(x: Scaled, y: Scaled) -> i64
 }
 
 /// a*x + b*y, exactly.
-pub fn sum_of_products(a: Scaled, x: Scaled, b: Scaled, y: Scaled) -> i64
+pub(crate) fn sum_of_products(a: Scaled, x: Scaled, b: Scaled, y: Scaled) -> i64
     ensures value { result ≡ a *ℤ x +ℤ b *ℤ y }
     ensures within { unsigned_abs result ≤ 2305843004918726658 }
 {
@@ -42,7 +42,7 @@ pub fn sum_of_products(a: Scaled, x: Scaled, b: Scaled, y: Scaled) -> i64
 }
 
 /// a*x - b*y, exactly.
-pub fn difference_of_products(a: Scaled, x: i64, b: Scaled, y: i64) -> i64
+pub(crate) fn difference_of_products(a: Scaled, x: i64, b: Scaled, y: i64) -> i64
     requires x { unsigned_abs x ≤ 2147483646 }
     requires y { unsigned_abs y ≤ 2147483646 }
     ensures value { result ≡ a *ℤ x -ℤ b *ℤ y }
@@ -52,7 +52,7 @@ pub fn difference_of_products(a: Scaled, x: i64, b: Scaled, y: i64) -> i64
 }
 
 /// r*n/d, cut toward zero.
-pub fn share(r: i64, n: i64, d: i64) -> i128
+pub(crate) fn share(r: i64, n: i64, d: i64) -> i128
     requires r { unsigned_abs r ≤ 1073741823 }
     requires n { unsigned_abs n ≤ 4611686009837453316 }
     requires d { 1 ≤ unsigned_abs d }

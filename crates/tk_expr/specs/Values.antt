@@ -1,4 +1,4 @@
--- What operators, signs and functions make of numbers in 65536ths.
+-- What operators, signs and functions make of numbers in 65536ths (the PGF manual, section Mathematical Expressions).
 use Rattle.std.specs.Prelude.{ℕ, zero, suc, ◌*◌, ◌+◌, ◌/◌, ◌%◌, Bool, not, ◌&&◌, ◌||◌, ◌==◌, nat_le, if◌then◌else◌}
 use Rattle.std.specs.Prelude.{Option, Some, None, Result, Ok, Err, ℤ, pos, negsuc, neg_ℤ, ◌+ℤ◌, ◌-ℤ◌, ◌*ℤ◌, int_lt}
 use Rattle.std.specs.Prelude.{int_le, int_div, int_rem, unsigned_abs}

@@ -1,4 +1,5 @@
-//! Expressions: the value of a text in the grammar of TikZ's arithmetic, and the pairs of coordinates.
+//! Expressions: the value of a text in the grammar of TikZ's arithmetic (the PGF manual, section Mathematical
+//! Expressions), and the pairs of coordinates.
 #![tactic(auto)]
 
 mod evaluation;
@@ -24,14 +25,14 @@ use tk_num::Scaled;
 pub use values::placed;
 
 /// The units of the font, in scaled points.
-#[derive(Clone, Copy, Default, PartialEq, Eq)]
+#[derive(Clone, Copy, PartialEq, Eq)]
 pub struct FontUnits {
     pub em: Scaled,
     pub ex: Scaled,
 }
 
 /// What an expression stands for: its number in 65536ths, and whether a unit stands anywhere in its text.
-#[derive(Clone, Copy, Default, PartialEq, Eq)]
+#[derive(Clone, Copy, PartialEq, Eq)]
 pub struct Value {
     pub number: Scaled,
     pub unit: bool,

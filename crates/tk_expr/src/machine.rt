@@ -35,9 +35,8 @@ pub struct Pending {
 }
 
 /// What an open parenthesis belongs to; `at` is the place of a function's name.
-#[derive(Clone, Copy, Default)]
+#[derive(Clone, Copy)]
 pub enum Bracket {
-    #[default]
     Plain,
     /// A function of one argument.
     Only(One, u32),
@@ -49,7 +48,7 @@ pub enum Bracket {
     Each(Most, Option<Found>),
 }
 
-/// What is open. The first kind is first, so that a blank frame is all zeros.
+/// What is open.
 #[derive(Clone, Copy)]
 pub enum Frame {
     /// A `?` with its condition, before the `:`.

@@ -5,7 +5,7 @@ ghost use Rattle.tk_num.specs.Number.{IsScaled, IsWhole, IsFraction, scaled, flo
 ghost use Rattle.tk_expr.specs.Values as spec;
 
 use crate::FontUnits;
-use crate::operators::{Operator, Prefix};
+use crate::operators::Operator;
 use crate::pieces::{Most, One, Two};
 use tk_num::{NumFault, Scaled, Unit, add, cos, div, mul, root, sin, sub, tan, with_unit};
 use tk_token::{Code, Fault};
@@ -63,17 +63,6 @@ pub(crate) fn is_true(x: Scaled) -> bool
     ensures { result ≡ spec.is_true x }
 {
     x.sp() != 0
-}
-
-/// What a sign makes of a number.
-pub(crate) fn prefixed(sign: Prefix, x: Scaled) -> Scaled
-    ensures { result ≡ spec.prefixed sign x }
-{
-    match sign {
-        Prefix::Negate => x.negated(),
-        Prefix::Keep => x,
-        Prefix::Not => truth(!is_true(x)),
-    }
 }
 
 /// As many products by `x` as the exponent says, from one on.

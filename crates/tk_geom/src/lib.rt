@@ -23,7 +23,7 @@ pub use rectangles::{push_rectangle, rectangle};
 pub use segments::on_segment;
 use tk_item::Point;
 
-/// What a path drew last, on which a node may be waypoint.
+/// What a path drew last, on which a node may be placed.
 #[derive(Clone, Copy, PartialEq, Eq)]
 pub enum Last {
     /// Nothing that has places, as before the first operation or after a circle: each place is that point.

@@ -16,7 +16,7 @@ pub struct MemFile {
     pub bytes: Vec<u8>,
 }
 
-// The files, and how far the open one and standard input are read.
+/// The files, and how far the open one and standard input are read.
 #[derive(Drop)]
 pub(crate) struct Desk {
     files: Vec<MemFile>,
@@ -62,14 +62,14 @@ impl Desk {
         }
     }
 
-    // The place of the file of that name.
+    /// The place of the file of that name.
     pub(crate) fn find(&self, name: &str) -> Option<usize>
         ensures place { result ≡ find_file self.now name.now }
     {
         place_in(&self.files, name)
     }
 
-    // The place of the open file.
+    /// The place of the open file.
     pub(crate) fn current(&self) -> Option<usize>
         ensures place { result ≡ self.now.current }
         ensures desk { IsDesk self.now }
@@ -77,7 +77,7 @@ impl Desk {
         self.current
     }
 
-    // No file is open then.
+    /// No file is open then.
     pub(crate) fn close(&mut self)
         ensures { self.new ≡ record self.old { current = None; taken = 0 } }
     {
@@ -85,7 +85,7 @@ impl Desk {
         self.taken = 0;
     }
 
-    // The file at a place.
+    /// The file at a place.
     fn file(&self, place: usize) -> &MemFile
         requires { place < length self.now.files }
         ensures { shown result.now ≡ file_at self.now place }
@@ -93,7 +93,7 @@ impl Desk {
         &self.files[place]
     }
 
-    // Opens the file at a place, which is the first of its name.
+    /// Opens the file at a place, which is the first of its name.
     pub(crate) fn open_at(&mut self, place: usize)
         requires { find_file self.old (file_at self.old place).0 ≡ Some place }
         ensures { self.new ≡ opened_at self.old place }
@@ -104,7 +104,7 @@ impl Desk {
         self.at = if is_input { self.input } else { 0 };
     }
 
-    // Hands out the next bytes of the open file, which is the one at this place, at most so many.
+    /// Hands out the next bytes of the open file, which is the one at this place, at most so many.
     pub(crate) fn hand_out(&mut self, place: usize, buf: &mut [u8], most: usize) -> usize
         requires { self.old.current ≡ Some place }
         ensures count { result
@@ -139,14 +139,14 @@ pub fn names_differ(files: &[MemFile]) -> bool
     true
 }
 
-// The place of the first file of that name.
+/// The place of the first file of that name.
 fn place_in(files: &[MemFile], name: &str) -> Option<usize>
     ensures { result ≡ position (λ file. bytes_eq (string_bytes file.name) name.now) files.now }
 {
     files.iter().position(|file| file.name.as_str() == name)
 }
 
-// Copies as many bytes as there are and fit to the front of the buffer, at most so many.
+/// Copies as many bytes as there are and fit to the front of the buffer, at most so many.
 fn copy_front(bytes: &[u8], buf: &mut [u8], most: usize) -> usize
     ensures count { result ≡ min (min (length buf.old) most) (length bytes.now) }
     ensures front { take result buf.new ≡ take result bytes.now }

@@ -11,7 +11,7 @@ use std::alloc::{AllocError, Global};
 /// The most bytes of an input: 16 MiB.
 pub const MOST_BYTES: usize = 16_777_216;
 
-// How many bytes one call asks for.
+/// How many bytes one call asks for.
 const STEP: usize = 65_536;
 
 /// Why a file isn't read.

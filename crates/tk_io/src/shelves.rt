@@ -68,7 +68,7 @@ impl MemShelf {
         })
     }
 
-    // Counts a fault of the file at a place, or where there is none of all other names.
+    /// Counts a fault of the file at a place, or where there is none of all other names.
     fn blame(&mut self, place: Option<usize>)
         requires { ForSome place (λ place. place < length self.old.faults) }
         ensures blamed { self.new ≡ blamed place self.old }

@@ -109,6 +109,7 @@ impl Sink for MemSink {
 pub struct SureSink;
 
 impl SureSink {
+    /// A sink that takes everything.
     #[allow(clippy::new_without_default)]
     pub fn new() -> SureSink {
         SureSink

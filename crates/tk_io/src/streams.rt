@@ -153,7 +153,7 @@ impl Sink for ErrSink {
     }
 }
 
-// Asks a writer once, and counts a fault where it fails or takes nothing of what isn't empty.
+/// Asks a writer once, and counts a fault where it fails or takes nothing of what isn't empty.
 fn write_once<W: Write>(to: &mut W, piece: &[u8], faults: &mut u64) -> Result<usize, Failed>
     ensures { Writes piece.now
         (record { bytes = None; faults = faults.old })

@@ -11,8 +11,8 @@ use crate::desk::{Desk, MemFile};
 use crate::{Failed, Shelf};
 use std::marker::Model;
 
-// Which of the names that a sure shelf doesn't have is open. It can't keep the name itself without
-// taking memory.
+/// Which of the names that a sure shelf doesn't have is open. It can't keep the name itself without
+/// taking memory.
 #[derive(Clone, Copy)]
 pub(crate) enum Absent {
     Nothing,
@@ -92,7 +92,7 @@ impl Shelf for SureShelf {
     }
 }
 
-// What is open where the shelf doesn't have the name.
+/// What is open where the shelf doesn't have the name.
 fn absent_of(name: &str) -> Absent
     ensures { result ≡ (if bytes_eq name.now standard_input then Absent.Input else Absent.Other) }
 {

@@ -13,7 +13,7 @@ pub use lists::{Items, Segs, Text};
 use tk_num::Scaled;
 
 /// A point, in scaled points.
-#[derive(Clone, Copy, Default, PartialEq, Eq)]
+#[derive(Clone, Copy, PartialEq, Eq)]
 pub struct Point {
     pub x: Scaled,
     pub y: Scaled,
@@ -31,7 +31,7 @@ pub enum Seg {
 }
 
 /// A colour of red, green and blue.
-#[derive(Clone, Copy, Default, PartialEq, Eq)]
+#[derive(Clone, Copy, PartialEq, Eq)]
 pub struct Rgb {
     pub r: u8,
     pub g: u8,
@@ -104,7 +104,7 @@ pub enum Item {
 
 /// A box, in scaled points. What `widen` makes has its left side at most at the right one, and its bottom
 /// at most at the top. A side may lie past the range of `Scaled`, by half of a width.
-#[derive(Clone, Copy, Default, PartialEq, Eq)]
+#[derive(Clone, Copy, PartialEq, Eq)]
 pub struct Frame {
     pub left: i64,
     pub bottom: i64,

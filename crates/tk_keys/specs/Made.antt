@@ -14,7 +14,7 @@ pub record AreMade (names : List (List ℕ)) (made : MadeWords) : Type 0 where
   pub key : made.key ≡ word_number names (codes "pgfkeyscurrentkey")
   pub name : made.name ≡ word_number names (codes "pgfkeyscurrentname")
 
--- the last level has those entries too, one after another; no level was opened, and no word got a macro
+-- the current level has those entries too, one after another; no level was opened, and no word got a macro
 pub record HasEntries (old new : Levels) (entries : List (List ℕ × Entry)) : Type 0 where
   pub outer : new.outer ≡ old.outer
   pub macros : new.top.macros ≡ old.top.macros

@@ -22,7 +22,7 @@ pub record State : Type 0 where
   pub lists : ℕ
   pub units : ℕ
 
--- what words and keys mean at the last level, and how many levels and key lists there are
+-- what words and keys mean at the current level, and how many levels and key lists there are
 abbrev pub env_of : State → Env
 env_of s =
     record {

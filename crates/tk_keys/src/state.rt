@@ -137,7 +137,7 @@ impl State {
         &self.store
     }
 
-    /// Gives the word with that number a macro, until the last level is closed. On want of memory all stays as it was.
+    /// Gives the word with that number a macro, until the current level is closed. On want of memory all stays as it was.
     pub fn set_macro(&mut self, name: u32, value: Macro) -> Result<(), AllocError>
         ensures ok { OnOk result (SetsMacro self.old.levels self.new.levels name value) }
         ensures kept { self.new ≡ record self.old { levels = self.new.levels } }
@@ -230,13 +230,14 @@ impl State {
             });
         }
         self.store.open();
+        // The copy is what is saved, and the name, which owns memory, moves into it.
         let mut saved = self.graphics.below();
         saved.look.name = mem::replace(&mut self.graphics.look.name, None);
         self.saved.push_reserved(saved);
         Ok(())
     }
 
-    /// Closes the last level: what was set at it ends. This takes no memory, and looks only at what was set: a step is
+    /// Closes the current level: what was set at it ends. This takes no memory, and looks only at what was set: a step is
     /// one setting that is undone.
     pub fn close<L: Ledger>(&mut self, steps: &mut Steps<L>)
         requires { 0 < length self.old.levels.outer }
@@ -254,7 +255,7 @@ impl State {
         restore(&mut self.saved, &mut self.graphics);
     }
 
-    /// Closes the last level and counts no steps. This takes no memory.
+    /// Closes the current level and counts no steps. This takes no memory.
     pub fn close_uncounted(&mut self)
         requires { 0 < length self.old.levels.outer }
         ensures levels { self.old.levels.outer ≡ self.new.levels.top ∷ self.new.levels.outer }

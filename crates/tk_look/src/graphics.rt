@@ -36,7 +36,7 @@ impl GraphicsState {
         }
     }
 
-    /// The same, where the values of expressions are those of the machine.
+    /// What `set` does, where the values of expressions are those of the machine.
     #[tactic(auto, unfolding(crate::specs::Graphics::graphics_by))]
     fn set_by_machine(
         &mut self,

@@ -306,7 +306,7 @@ impl Look {
         }
     }
 
-    /// The same, where the values of expressions are those of the machine.
+    /// What the function `apply` does, where the values of expressions are those of the machine.
     pub(crate) fn apply(
         &mut self,
         alloc: Global,

@@ -1,4 +1,4 @@
-//! Numbers of a look that aren't of any size.
+//! Numbers of a look that have a range.
 
 ghost use Rattle.std.specs.Prelude.{◌≡◌, int_le, nat_le, pos, ◌≤ℤ◌, ◌≤◌, unsigned_abs, if◌then◌else◌, Some, None};
 

@@ -17,8 +17,8 @@ use Rattle.tk_look.specs.Graphics.{answer_at}
 use Rattle.tk_geom.specs.GridLines.{GridLine, line_pieces, corners, grid_lines}
 use Rattle.tk_geom.specs.Grids.{Grid, grid_of, grid_behind, grid_appended, line_drawn, lines_drawn, grid_pieces}
 use Rattle.tk_keys.proofs.Standing.{any_value}
-use Rattle.tk_path.specs.declared.trace.Goal.{Goal}
-use Rattle.tk_path.specs.declared.trace.Mesh.{Mesh}
+use Rattle.tk_path.specs.declared.current_path.Goal.{Goal}
+use Rattle.tk_path.specs.declared.current_path.Mesh.{Mesh}
 use Rattle.tk_path.specs.CurrentPaths.{CurrentPath, current_point, moved_to, with_pieces}
 use Rattle.tk_path.specs.Meshes.{Meshed, meshed, mesh_drawn}
 use Rattle.tk_path.specs.Views.{BeginsOrNone, IsTraced}

@@ -32,8 +32,8 @@ use Rattle.tk_path.specs.declared.measures.ArcText.{ArcText}
 use Rattle.tk_path.specs.declared.measures.Measures.{Measures}
 use Rattle.tk_path.specs.declared.measures.Radii.{Radii}
 use Rattle.tk_path.specs.declared.measures.Sweep.{Sweep}
-use Rattle.tk_path.specs.declared.trace.Goal.{Goal}
-use Rattle.tk_path.specs.declared.trace.Mesh.{Mesh}
+use Rattle.tk_path.specs.declared.current_path.Goal.{Goal}
+use Rattle.tk_path.specs.declared.current_path.Mesh.{Mesh}
 use Rattle.tk_path.specs.declared.words.PathWord.{PathWord}
 use Rattle.tk_path.specs.declared.words.PathWord.TheVariants as words
 use Rattle.tk_path.specs.declared.words.Words.TheVariants.{Controls}

@@ -6,7 +6,7 @@ use Rattle.tk_token.specs.Answers.{Answer, ◌>>=◌, fault}
 use Rattle.tk_expand.specs.Reading.{is_there}
 use Rattle.tk_keys.specs.Environment.{Env}
 use Rattle.tk_keys.specs.Given.{Given}
-use Rattle.tk_path.specs.declared.trace.Goal.{Goal}
+use Rattle.tk_path.specs.declared.current_path.Goal.{Goal}
 use Rattle.tk_path.specs.declared.words.PathWord.{PathWord}
 use Rattle.tk_path.specs.declared.words.PathWord.TheVariants.{Cycle}
 use Rattle.tk_path.specs.declared.words.Words.TheVariants.{Nodes, Targets}

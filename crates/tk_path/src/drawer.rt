@@ -12,7 +12,7 @@ ghost use Rattle.tk_path.specs.Pictures.{drawn};
 ghost use Rattle.tk_path.specs.CurrentPaths.{CurrentPath as ACurrentPath, no_path};
 ghost use Rattle.tk_path.specs.Views.{given_to, picture_of, configuration_of, lookahead_of, OnlyPays, IsSound};
 
-use crate::trace::CurrentPath;
+use crate::current_path::CurrentPath;
 use std::alloc::AllocError;
 use tk_expand::Input;
 use tk_item::{Fill, Frame, Item, Items, Segs, Stroke, half_width, widen};

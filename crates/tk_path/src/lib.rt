@@ -2,6 +2,7 @@
 #![tactic(auto)]
 
 mod coordinate;
+mod current_path;
 mod drawer;
 mod keys;
 mod laws;
@@ -10,7 +11,6 @@ mod operations;
 mod outlines;
 mod path;
 mod targets;
-mod trace;
 mod words;
 
 pub use drawer::{Drawer, Flow};

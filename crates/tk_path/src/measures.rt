@@ -11,9 +11,9 @@ ghost use Rattle.tk_path.specs.CurrentPaths.{CurrentPath as ACurrentPath};
 ghost use Rattle.tk_path.specs.Measures as spec;
 ghost use Rattle.tk_path.specs.Views.{given_to, configuration_of, lookahead_of, reached_at, KeepsDrawn};
 
+use crate::current_path::Mesh;
 use crate::drawer::Drawer;
 use crate::keys::option_list;
-use crate::trace::Mesh;
 use tk_affine::Matrix;
 use tk_expand::{Input, is_there};
 use tk_expr::{FontUnits, Value, eval, length_along, placed};
@@ -130,27 +130,17 @@ impl Measures {
     pub(crate) fn sweep(&self, at: u32) -> Result<Sweep, Fault>
         ensures { result ≡ spec.sweep_of at self.now.start_angle self.now.end_angle self.now.delta_angle }
     {
-        match self.start_angle {
-            Some(from) => match self.end_angle {
-                Some(to) => Ok(Sweep { from, to }),
-                None => match self.delta_angle {
-                    Some(delta) => Ok(Sweep {
-                        from,
-                        to: placed(at, add(from, delta))?,
-                    }),
-                    None => Err(Fault::new(Code::PathSyntax, at)),
-                },
-            },
-            None => match self.end_angle {
-                Some(to) => match self.delta_angle {
-                    Some(delta) => Ok(Sweep {
-                        from: placed(at, sub(to, delta))?,
-                        to,
-                    }),
-                    None => Err(Fault::new(Code::PathSyntax, at)),
-                },
-                None => Err(Fault::new(Code::PathSyntax, at)),
-            },
+        match (self.start_angle, self.end_angle, self.delta_angle) {
+            (Some(from), Some(to), _) => Ok(Sweep { from, to }),
+            (Some(from), None, Some(delta)) => Ok(Sweep {
+                from,
+                to: placed(at, add(from, delta))?,
+            }),
+            (None, Some(to), Some(delta)) => Ok(Sweep {
+                from: placed(at, sub(to, delta))?,
+                to,
+            }),
+            _ => Err(Fault::new(Code::PathSyntax, at)),
         }
     }
 }

@@ -14,9 +14,9 @@ ghost use Rattle.tk_path.specs.Views.{given_to, configuration_of, lookahead_of, 
 ghost use Rattle.tk_path.specs.Views.{control_of, way_of, OnlyPays, KeepsDrawn};
 
 use crate::coordinate::{Sign, Written};
+use crate::current_path::{CurrentPath, Goal};
 use crate::drawer::Drawer;
 use crate::targets::Target;
-use crate::trace::{CurrentPath, Goal};
 use crate::words::{PathWord, Words};
 use tk_coord::{CornerSign, corner_between};
 use tk_expand::Input;

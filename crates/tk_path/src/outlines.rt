@@ -8,9 +8,9 @@ ghost use Rattle.tk_path.specs.Operations as spec;
 ghost use Rattle.tk_path.specs.Views.{given_to, configuration_of, lookahead_of, reached_at, OnlyPays, KeepsDrawn};
 
 use crate::coordinate::written_text;
+use crate::current_path::{CurrentPath, Goal};
 use crate::drawer::{Drawer, misfit};
 use crate::measures::{ArcMeasures, ArcText, Measures, arc_in, radii_in};
-use crate::trace::{CurrentPath, Goal};
 use tk_expand::{Input, is_there};
 use tk_look::answer_at;
 use tk_token::{Refusal, Tok};

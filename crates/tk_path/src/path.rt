@@ -11,9 +11,9 @@ ghost use Rattle.tk_path.specs.Paths as paths;
 ghost use Rattle.tk_path.specs.Paths.{stretch};
 ghost use Rattle.tk_path.specs.Views.{given_to, configuration_of, lookahead_of, path_flow_of, IsSound, KeepsDrawn};
 
+use crate::current_path::CurrentPath;
 use crate::drawer::{Drawer, Flow};
 use crate::targets::begins_coordinate;
-use crate::trace::CurrentPath;
 use crate::words::Words;
 use tk_expand::{Input, is_there};
 use tk_token::{Refusal, Tok};

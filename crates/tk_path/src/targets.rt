@@ -12,8 +12,8 @@ ghost use Rattle.tk_path.specs.Words.{begins_coordinate};
 ghost use Rattle.tk_expand.specs.Reading.{is_there as stands_there};
 
 use crate::coordinate::Written;
+use crate::current_path::{CurrentPath, Goal};
 use crate::drawer::Drawer;
-use crate::trace::{CurrentPath, Goal};
 use crate::words::{PathWord, Words};
 use tk_expand::{Input, is_there};
 use tk_item::Point;

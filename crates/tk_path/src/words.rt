@@ -57,53 +57,20 @@ fn operation(first: char, second: char) -> Option<Row>
     ensures { option_map (λ row. (row.0.now, row.1)) result
         ≡ slice_get (spec.going_on second (spec.going_on first spec.operation_words)) 0 }
 {
-    match first {
-        '-' => match second {
-            '-' => Some((b"", PathWord::Line)),
-            '|' => Some((b"", PathWord::AcrossThenUp)),
-            _ => None,
-        },
-        '|' => match second {
-            '-' => Some((b"", PathWord::UpThenAcross)),
-            _ => None,
-        },
-        '.' => match second {
-            '.' => Some((b"", PathWord::Dots)),
-            _ => None,
-        },
-        't' => match second {
-            'o' => Some((b"", PathWord::To)),
-            _ => None,
-        },
-        'r' => match second {
-            'e' => Some((b"ctangle", PathWord::Rectangle)),
-            _ => None,
-        },
-        'c' => match second {
-            'i' => Some((b"rcle", PathWord::Circle)),
-            'o' => Some((b"ordinate", PathWord::Node)),
-            _ => None,
-        },
-        'e' => match second {
-            'l' => Some((b"lipse", PathWord::Circle)),
-            _ => None,
-        },
-        'a' => match second {
-            'r' => Some((b"c", PathWord::Arc)),
-            _ => None,
-        },
-        'g' => match second {
-            'r' => Some((b"id", PathWord::Grid)),
-            _ => None,
-        },
-        'n' => match second {
-            'o' => Some((b"de", PathWord::Node)),
-            _ => None,
-        },
-        'f' => match second {
-            'o' => Some((b"reach", PathWord::Foreach)),
-            _ => None,
-        },
+    match (first, second) {
+        ('-', '-') => Some((b"", PathWord::Line)),
+        ('-', '|') => Some((b"", PathWord::AcrossThenUp)),
+        ('|', '-') => Some((b"", PathWord::UpThenAcross)),
+        ('.', '.') => Some((b"", PathWord::Dots)),
+        ('t', 'o') => Some((b"", PathWord::To)),
+        ('r', 'e') => Some((b"ctangle", PathWord::Rectangle)),
+        ('c', 'i') => Some((b"rcle", PathWord::Circle)),
+        ('c', 'o') => Some((b"ordinate", PathWord::Node)),
+        ('e', 'l') => Some((b"lipse", PathWord::Circle)),
+        ('a', 'r') => Some((b"c", PathWord::Arc)),
+        ('g', 'r') => Some((b"id", PathWord::Grid)),
+        ('n', 'o') => Some((b"de", PathWord::Node)),
+        ('f', 'o') => Some((b"reach", PathWord::Foreach)),
         _ => None,
     }
 }
@@ -113,15 +80,9 @@ fn node(first: char, second: char) -> Option<Row>
     ensures { option_map (λ row. (row.0.now, row.1)) result
         ≡ slice_get (spec.going_on second (spec.going_on first spec.node_words)) 0 }
 {
-    match first {
-        'n' => match second {
-            'o' => Some((b"de", PathWord::Node)),
-            _ => None,
-        },
-        'c' => match second {
-            'o' => Some((b"ordinate", PathWord::Node)),
-            _ => None,
-        },
+    match (first, second) {
+        ('n', 'o') => Some((b"de", PathWord::Node)),
+        ('c', 'o') => Some((b"ordinate", PathWord::Node)),
         _ => None,
     }
 }
@@ -131,16 +92,10 @@ fn target(first: char, second: char) -> Option<Row>
     ensures { option_map (λ row. (row.0.now, row.1)) result
         ≡ slice_get (spec.going_on second (spec.going_on first spec.target_words)) 0 }
 {
-    match first {
-        'n' => match second {
-            'o' => Some((b"de", PathWord::Node)),
-            _ => None,
-        },
-        'c' => match second {
-            'y' => Some((b"cle", PathWord::Cycle)),
-            'o' => Some((b"ordinate", PathWord::Node)),
-            _ => None,
-        },
+    match (first, second) {
+        ('n', 'o') => Some((b"de", PathWord::Node)),
+        ('c', 'y') => Some((b"cle", PathWord::Cycle)),
+        ('c', 'o') => Some((b"ordinate", PathWord::Node)),
         _ => None,
     }
 }
@@ -150,15 +105,9 @@ fn control(first: char, second: char) -> Option<Row>
     ensures { option_map (λ row. (row.0.now, row.1)) result
         ≡ slice_get (spec.going_on second (spec.going_on first spec.control_words)) 0 }
 {
-    match first {
-        'a' => match second {
-            'n' => Some((b"d", PathWord::And)),
-            _ => None,
-        },
-        '.' => match second {
-            '.' => Some((b"", PathWord::Dots)),
-            _ => None,
-        },
+    match (first, second) {
+        ('a', 'n') => Some((b"d", PathWord::And)),
+        ('.', '.') => Some((b"", PathWord::Dots)),
         _ => None,
     }
 }
@@ -167,40 +116,31 @@ fn control(first: char, second: char) -> Option<Row>
 fn begins_operation(first: char) -> bool
     ensures { result ≡ is_some (slice_get (spec.going_on first spec.operation_words) 0) }
 {
-    match first {
-        '-' | '|' | '.' | 't' | 'r' | 'c' | 'e' | 'a' | 'g' | 'n' | 'f' => true,
-        _ => false,
-    }
+    matches!(
+        first,
+        '-' | '|' | '.' | 't' | 'r' | 'c' | 'e' | 'a' | 'g' | 'n' | 'f'
+    )
 }
 
 /// Whether a node begins with that letter.
 fn begins_node(first: char) -> bool
     ensures { result ≡ is_some (slice_get (spec.going_on first spec.node_words) 0) }
 {
-    match first {
-        'n' | 'c' => true,
-        _ => false,
-    }
+    matches!(first, 'n' | 'c')
 }
 
 /// Whether a target begins with that letter.
 fn begins_target(first: char) -> bool
     ensures { result ≡ is_some (slice_get (spec.going_on first spec.target_words) 0) }
 {
-    match first {
-        'c' | 'n' => true,
-        _ => false,
-    }
+    matches!(first, 'c' | 'n')
 }
 
 /// Whether what stands behind a control point begins with that letter.
 fn begins_control(first: char) -> bool
     ensures { result ≡ is_some (slice_get (spec.going_on first spec.control_words) 0) }
 {
-    match first {
-        'a' | '.' => true,
-        _ => false,
-    }
+    matches!(first, 'a' | '.')
 }
 
 impl Words {

@@ -18,7 +18,7 @@ use Rattle.tk_store.proofs.Places.{added_back}
 
 -- ---- the levels further out
 
--- where so many settings were made at the last level
+-- where so many settings were made at the current level
 outer_at : ℕ → List Saved → List ℕ → Tables → List Level
 outer_at made saved marks tables =
     level_of (before_all (take made saved) tables) (settings_at (length (drop made saved)) marks)
@@ -74,7 +74,7 @@ unfolding AreMarks
 marks_more n [] marked = tt
 marks_more n (mark ∷ marks) marked = (omega (arith, marked.0), marked.1)
 
--- where what a setting replaced undoes it, only the last level is another
+-- where what a setting replaced undoes it, only the current level is another
 module _ (saved all : List Saved) (marks : List ℕ) (old new : Tables) (s : Saved) (are : all ≡ s ∷ saved)
     (marked : AreMarks (length saved) marks) where
   levels_set : before s new ≡ old
@@ -87,7 +87,7 @@ module _ (saved all : List Saved) (marks : List ℕ) (old new : Tables) (s : Sav
   one_setting_more : settings_at (length all) marks ≡ settings_at (length saved) marks + 1
   one_setting_more = ap (λ (l : List Saved). settings_at (length l) marks) are ∙ settings_set (length saved) marks marked
 
--- the last level has those tables, and at most one more setting; all else stays
+-- the current level has those tables, and at most one more setting; all else stays
 pub record Changes (old new : Levels) (tables : Tables) : Type 0 where
   pub levels : new ≡ record old { top = level_of tables new.top.settings }
   pub settings : CountsOne old new
@@ -286,7 +286,7 @@ module _ (saved : List Saved) (mark : ℕ) (few : length saved ≤ mark) where
   pub none_dropped : made_until mark saved ≡ saved
   none_dropped = ap (λ (n : ℕ). drop n saved) none
 
--- once all that were made since a mark are undone, the last level is closed
+-- once all that were made since a mark are undone, the current level is closed
 module _ (saved less : List Saved) (mark : ℕ) (marks all : List ℕ) (are : all ≡ mark ∷ marks) where
   pub close_is : (old new : Tables)
       → new ≡ before_all (made_since mark saved) old

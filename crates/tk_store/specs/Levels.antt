@@ -37,12 +37,12 @@ new_levels = record { outer = []; top = empty_level }
 abbrev pub opened : Levels → Levels
 opened levels = record { outer = levels.top ∷ levels.outer; top = record levels.top { settings = 0 } }
 
--- of the last level only the settings are others, and they are at most one more
+-- of the current level only the settings are others, and they are at most one more
 pub record CountsOne (old new : Levels) : Type 0 where
   pub low : old.top.settings ≤ new.top.settings
   pub high : new.top.settings ≤ old.top.settings + 1
 
--- a word has a macro at the last level; all else stays
+-- a word has a macro at the current level; all else stays
 pub record SetsMacro (old new : Levels) (word : ℕ) (value : Macro) : Type 0 where
   pub levels : new
       ≡ record old {
@@ -53,7 +53,7 @@ pub record SetsMacro (old new : Levels) (word : ℕ) (value : Macro) : Type 0 wh
       }
   pub settings : CountsOne old new
 
--- a key has an entry at the last level; all else stays
+-- a key has an entry at the current level; all else stays
 pub record SetsKey (old new : Levels) (path : List ℕ) (entry : Entry) : Type 0 where
   pub levels : new
       ≡ record old { top = record old.top { keys = map.insert old.top.keys path entry; settings = new.top.settings } }

@@ -12,7 +12,7 @@ use Rattle.tk_store.specs.Levels.{Macros, Keys, Level, Levels}
 
 -- ---- tables
 
--- the macros and the keys of the last level, each in the order in which they came
+-- the macros and the keys of the current level, each in the order in which they came
 pub record Tables : Type 0 where
   pub macros : List (ℕ × Macro)
   pub keys : List (List ℕ × Entry)
@@ -53,7 +53,7 @@ made_until mark saved = drop (length saved - mark) saved
 
 -- ---- levels
 
--- of so many settings how many were made at the last level; a mark says how many there were where a level was opened
+-- of so many settings how many were made at the current level; a mark says how many there were where a level was opened
 abbrev pub settings_at : ℕ → List ℕ → ℕ
 settings_at count [] = count
 settings_at count (mark ∷ marks) = count - mark

@@ -98,16 +98,6 @@ impl Body {
     }
 }
 
-impl Clone for Body {
-    ghost use Rattle.std.specs.Prelude.{◌≡◌};
-
-    ghost is_clone = { λ body copy. copy ≡ body };
-
-    fn clone(&self) -> Result<Body, AllocError> {
-        self.copy()
-    }
-}
-
 /// The value of a digit.
 pub fn digit_of(kind: Kind) -> Option<u8>
     ensures value { result ≡ digit_of kind }

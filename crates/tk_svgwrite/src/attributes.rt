@@ -14,7 +14,7 @@ use tk_item::Dashes;
 use tk_num::{Digits, Scaled, push_text};
 
 /// Writes an attribute.
-pub fn put_attribute(out: &mut Vec<u8>, name: &[u8], value: &[u8]) -> Result<(), AllocError>
+pub(crate) fn put_attribute(out: &mut Vec<u8>, name: &[u8], value: &[u8]) -> Result<(), AllocError>
     ensures { OnOk result (out.new.items ≡ out.old.items ++ attribute_text (name.now, value.now)) }
 {
     open_attribute(out, name)?;
@@ -23,7 +23,7 @@ pub fn put_attribute(out: &mut Vec<u8>, name: &[u8], value: &[u8]) -> Result<(),
 }
 
 /// Writes an attribute up to its value.
-pub fn open_attribute(out: &mut Vec<u8>, name: &[u8]) -> Result<(), AllocError>
+pub(crate) fn open_attribute(out: &mut Vec<u8>, name: &[u8]) -> Result<(), AllocError>
     ensures { OnOk result (out.new.items ≡ out.old.items ++ (codes " " ++ name.now ++ codes "=\"")) }
 {
     out.push(b' ')?;
@@ -32,7 +32,7 @@ pub fn open_attribute(out: &mut Vec<u8>, name: &[u8]) -> Result<(), AllocError>
 }
 
 /// Writes what stands behind the value of an attribute.
-pub fn close_attribute(out: &mut Vec<u8>) -> Result<(), AllocError>
+pub(crate) fn close_attribute(out: &mut Vec<u8>) -> Result<(), AllocError>
     ensures { OnOk result (out.new.items ≡ out.old.items ++ codes "\"") }
 {
     Ok(out.push(b'"')?)
@@ -40,7 +40,7 @@ pub fn close_attribute(out: &mut Vec<u8>) -> Result<(), AllocError>
 
 /// Writes an attribute exactly where its value is not the initial one.
 #[tactic(auto, unfolding(crate::specs::Plain::differing))]
-pub fn put_setting(
+pub(crate) fn put_setting(
     out: &mut Vec<u8>,
     name: &[u8],
     initial: &[u8],
@@ -57,7 +57,7 @@ pub fn put_setting(
 }
 
 /// The same for a number.
-pub fn put_number_setting(
+pub(crate) fn put_number_setting(
     out: &mut Vec<u8>,
     name: &[u8],
     initial: &[u8],
@@ -73,8 +73,9 @@ pub fn put_number_setting(
 }
 
 /// The same for dashes.
-pub fn put_dashes(out: &mut Vec<u8>, dashes: &Dashes) -> Result<(), AllocError>
-    ensures text { OnOk result (out.new.items ≡ out.old.items ++ attributes_text (differing (setting (codes "stroke-dasharray") (codes "none") (dash_text dashes.now) ∷ []))) }
+pub(crate) fn put_dashes(out: &mut Vec<u8>, dashes: &Dashes) -> Result<(), AllocError>
+    ensures text { OnOk result (out.new.items ≡ out.old.items
+        ++ attributes_text (differing (setting (codes "stroke-dasharray") (codes "none") (dash_text dashes.now) ∷ []))) }
     ensures range { OnOk result (AllByRecursion IsScaled dashes.now) }
     ensures dashes { OnOk result (AreDashes dashes.now) }
 {

@@ -25,7 +25,7 @@ use tk_item::{Drawing, Fill, Frame, Item, Seg, Stroke, Text};
 use tk_num::Scaled;
 
 /// Writes the elements of items.
-pub fn put_items(out: &mut Vec<u8>, alloc: Global, items: &[Item]) -> Result<(), AllocError>
+pub(crate) fn put_items(out: &mut Vec<u8>, alloc: Global, items: &[Item]) -> Result<(), AllocError>
     ensures text { OnOk result (out.new.items ≡ out.old.items ++ flat_map item_text items.now) }
     ensures range { OnOk result (AllByRecursion ItemInRange items.now) }
 {
@@ -71,7 +71,7 @@ fn put_path(out: &mut Vec<u8>, segs: &[Seg], presentation: &Presentation) -> Res
 }
 
 /// Writes how a path is filled.
-pub fn put_fill(out: &mut Vec<u8>, fill: Option<Fill>) -> Result<(), AllocError>
+pub(crate) fn put_fill(out: &mut Vec<u8>, fill: Option<Fill>) -> Result<(), AllocError>
     ensures text { OnOk result (out.new.items ≡ out.old.items ++ attributes_text (differing (fill_settings fill))) }
     ensures range { OnOk result (FillInRange fill) }
 {
@@ -86,7 +86,7 @@ pub fn put_fill(out: &mut Vec<u8>, fill: Option<Fill>) -> Result<(), AllocError>
 
 /// Writes how a path is drawn.
 #[tactic(auto, unfolding(crate::specs::Plain::differing))]
-pub fn put_stroke(out: &mut Vec<u8>, stroke: &Option<Stroke>) -> Result<(), AllocError>
+pub(crate) fn put_stroke(out: &mut Vec<u8>, stroke: &Option<Stroke>) -> Result<(), AllocError>
     ensures text { OnOk result (out.new.items
         ≡ out.old.items ++ attributes_text (differing (stroke_settings stroke.now))) }
     ensures range { OnOk result (StrokeInRange stroke.now) }
@@ -112,7 +112,7 @@ fn put_pen(out: &mut Vec<u8>, stroke: &Stroke) -> Result<(), AllocError>
 }
 
 /// Writes the start tag of the outermost element.
-pub fn put_svg(out: &mut Vec<u8>, drawing: &Drawing) -> Result<(), AllocError>
+pub(crate) fn put_svg(out: &mut Vec<u8>, drawing: &Drawing) -> Result<(), AllocError>
     requires { Fits drawing.now }
     ensures text { OnOk result (out.new.items ≡ out.old.items ++ svg_text drawing.now) }
     ensures range { OnOk result (IsScaled drawing.now.size) }

@@ -12,7 +12,7 @@ use tk_item::{Dashes, Fill, Stroke};
 /// filled, and drawn in black with a width of 1, these are `" fill="none" stroke="#000000"/>` and a line
 /// feed.
 #[derive(Drop)]
-pub struct Presentation {
+pub(crate) struct Presentation {
     fill: Option<Fill>,
     stroke: Option<Stroke>,
     text: Vec<u8>,
@@ -20,7 +20,7 @@ pub struct Presentation {
 
 impl Presentation {
     /// The presentation of a path that is neither filled nor drawn.
-    pub fn new(alloc: Global) -> Result<Presentation, AllocError>
+    pub(crate) fn new(alloc: Global) -> Result<Presentation, AllocError>
         ensures { IfOk result IsKept }
     {
         let mut text = Vec::new(alloc);
@@ -33,7 +33,11 @@ impl Presentation {
     }
 
     /// Becomes the presentation of this fill and stroke. The bytes are found anew only where it was another.
-    pub fn set(&mut self, fill: Option<Fill>, stroke: &Option<Stroke>) -> Result<(), AllocError>
+    pub(crate) fn set(
+        &mut self,
+        fill: Option<Fill>,
+        stroke: &Option<Stroke>,
+    ) -> Result<(), AllocError>
         requires { IsKept self.old }
         ensures kept { OnOk result (IsKept self.new) }
         ensures fill { OnOk result (self.new.fill ≡ fill) }
@@ -50,7 +54,7 @@ impl Presentation {
     }
 
     /// The bytes of the presentation.
-    pub fn as_slice(&self) -> &[u8]
+    pub(crate) fn as_slice(&self) -> &[u8]
         ensures { result.now ≡ self.now.text.items }
     {
         self.text.as_slice()

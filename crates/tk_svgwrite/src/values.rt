@@ -15,7 +15,7 @@ use tk_item::{Cap, Join, Point, Rgb, Rule, Seg};
 use tk_num::{Digits, Scaled, push_text};
 
 /// Writes a number.
-pub fn put_number(out: &mut Vec<u8>, sp: i64) -> Result<(), AllocError>
+pub(crate) fn put_number(out: &mut Vec<u8>, sp: i64) -> Result<(), AllocError>
     ensures { OnOk result (out.new.items ≡ out.old.items ++ text_of sp) }
 {
     let mut digits: Digits = ArrayVec::new();
@@ -24,7 +24,7 @@ pub fn put_number(out: &mut Vec<u8>, sp: i64) -> Result<(), AllocError>
 }
 
 /// The same of a scaled number.
-pub fn put_scaled(out: &mut Vec<u8>, number: Scaled) -> Result<(), AllocError>
+pub(crate) fn put_scaled(out: &mut Vec<u8>, number: Scaled) -> Result<(), AllocError>
     ensures text { OnOk result (out.new.items ≡ out.old.items ++ text_of number) }
     ensures range { OnOk result (IsScaled number) }
 {
@@ -32,7 +32,11 @@ pub fn put_scaled(out: &mut Vec<u8>, number: Scaled) -> Result<(), AllocError>
 }
 
 /// Writes numbers with one space between any two.
-pub fn put_numbers(out: &mut Vec<u8>, first: Scaled, rest: &[Scaled]) -> Result<(), AllocError>
+pub(crate) fn put_numbers(
+    out: &mut Vec<u8>,
+    first: Scaled,
+    rest: &[Scaled],
+) -> Result<(), AllocError>
     ensures text { OnOk result (out.new.items ≡ out.old.items ++ numbers_text (first ∷ rest.now)) }
     ensures range { OnOk result (AllByRecursion IsScaled (first ∷ rest.now)) }
 {
@@ -53,7 +57,7 @@ fn put_next(out: &mut Vec<u8>, number: Scaled) -> Result<(), AllocError>
 }
 
 /// Writes two numbers with a space between them.
-pub fn put_pair(out: &mut Vec<u8>, x: i64, y: i64) -> Result<(), AllocError>
+pub(crate) fn put_pair(out: &mut Vec<u8>, x: i64, y: i64) -> Result<(), AllocError>
     ensures { OnOk result (out.new.items ≡ out.old.items ++ numbers_text (x ∷ y ∷ [])) }
 {
     put_number(out, x)?;
@@ -62,7 +66,7 @@ pub fn put_pair(out: &mut Vec<u8>, x: i64, y: i64) -> Result<(), AllocError>
 }
 
 /// Writes the data of a path.
-pub fn put_data(out: &mut Vec<u8>, segs: &[Seg]) -> Result<(), AllocError>
+pub(crate) fn put_data(out: &mut Vec<u8>, segs: &[Seg]) -> Result<(), AllocError>
     ensures text { OnOk result (out.new.items ≡ out.old.items ++ data_text segs.now) }
     ensures range { OnOk result (AllByRecursion PieceInRange segs.now) }
 {
@@ -114,7 +118,7 @@ fn point_text(front: u8, p: Point) -> Digits
 }
 
 /// A colour as `#` and six digits.
-pub fn rgb_digits(rgb: Rgb) -> [u8; 7]
+pub(crate) fn rgb_digits(rgb: Rgb) -> [u8; 7]
     ensures text { result ≡ rgb_text rgb }
     ensures range { RgbInRange rgb }
 {
@@ -140,7 +144,8 @@ fn hex_digit(digit: u8) -> u8
     }
 }
 
-pub fn rule_word(rule: Rule) -> &'static [u8]
+/// The word of SVG for a fill rule.
+pub(crate) fn rule_word(rule: Rule) -> &'static [u8]
     ensures { result.now ≡ rule_text rule }
 {
     match rule {
@@ -149,7 +154,8 @@ pub fn rule_word(rule: Rule) -> &'static [u8]
     }
 }
 
-pub fn cap_word(cap: Cap) -> &'static [u8]
+/// The word of SVG for a cap.
+pub(crate) fn cap_word(cap: Cap) -> &'static [u8]
     ensures { result.now ≡ cap_text cap }
 {
     match cap {
@@ -159,7 +165,8 @@ pub fn cap_word(cap: Cap) -> &'static [u8]
     }
 }
 
-pub fn join_word(join: Join) -> &'static [u8]
+/// The word of SVG for a join.
+pub(crate) fn join_word(join: Join) -> &'static [u8]
     ensures { result.now ≡ join_text join }
 {
     match join {

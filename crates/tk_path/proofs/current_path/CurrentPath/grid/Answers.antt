@@ -9,7 +9,7 @@ use Rattle.tk_path.specs.CurrentPaths.{CurrentPath}
 use Rattle.tk_path.specs.Meshes.{Meshed, meshed}
 use Rattle.tk_path.specs.Views.{IsTraced}
 use Rattle.tk_path.proofs.Meshing.{grid_added, mesh_is, mesh_fails}
-use Rattle.tk_path.proofs.trace.CurrentPath.grid.Goals as goal
+use Rattle.tk_path.proofs.current_path.CurrentPath.grid.Goals as goal
 
 pub returns-in_err-push_grid-clause-gives : goal.returns-in_err-push_grid-clause-gives
 returns-in_err-push_grid-clause-gives c =
