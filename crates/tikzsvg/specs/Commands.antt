@@ -1,4 +1,4 @@
--- Commands as code has them.
+-- Private: only private contracts use this. Commands as code has them.
 use Rattle.std.specs.Prelude.{◌≤◌}
 use Rattle.tikzsvg.specs.declared.words.Command.{Command as CodeCommand}
 use Rattle.tikzsvg.specs.declared.words.Command.TheVariants as code

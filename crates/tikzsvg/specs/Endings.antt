@@ -1,4 +1,4 @@
--- How a run ends.
+-- Private: only private contracts use this. How a run ends.
 use Rattle.std.specs.Prelude.{◌≡◌, ◌⊎◌, ℕ, ◌<◌, List, length, take, Option, Some, None}
 use Rattle.tk_io.specs.Causes.{Rose}
 use Rattle.tk_io.specs.Sink.{Sunk, Takes}

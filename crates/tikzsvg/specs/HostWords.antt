@@ -1,4 +1,4 @@
--- Why the host gave no words.
+-- Private: only private contracts use this. Why the host gave no words.
 use Rattle.std.specs.Prelude.{◌≡◌, ◌≢◌}
 use Rattle.std.specs.declared.io.ErrorKind.{ErrorKind}
 use Rattle.std.specs.declared.io.ErrorKind.TheVariants as kinds

@@ -2,6 +2,7 @@
 -- 10,000,000 units.
 use Rattle.std.specs.Prelude.{◌≡◌, ◌≢◌, ◌⊎◌, ℕ, ◌+◌, ◌<◌, ◌≤◌, List, [], length, take, drop, Option, Some, None, IfSome}
 use Rattle.std.specs.Prelude.{Ok, Err, unwrap_or}
+use Rattle.std.specs.Str.{IsUtf8}
 use Rattle.tk_token.specs.declared.Fault.{Fault}
 use Rattle.tk_token.specs.Answers.{Answer}
 use Rattle.tk_item.specs.declared.Drawing.{Drawing}
@@ -67,11 +68,13 @@ pub record Draws
   pub read : WasRead file source before after
   pub is : ComesTo budget source (Ok drawing)
 
--- the file was read, and has this fault
+-- the file was read, and has this fault, at a place in it with whole characters before
 pub record Breaks
     (file source : List ℕ) (budget : ℕ) (before after : Shelved) (fault : Fault) : Type 0 where
   pub read : WasRead file source before after
   pub is : ComesTo budget source (Err fault)
+  pub place : fault.at ≤ length source
+  pub text : IsUtf8 (take fault.at source)
 
 -- no other file is touched: where the shelf tells its bytes it holds what it held, but of standard
 -- input, if that is the file, the rest, and the counts of its other files stay

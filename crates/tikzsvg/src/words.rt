@@ -1,8 +1,9 @@
 //! The words of the command line.
 
-ghost use Rattle.std.specs.Prelude.{◌≡◌, ◌&&◌, codes, map, option_map, string_bytes, IfOk, IfErr, IfSome, IsErrAnd};
+ghost use Rattle.std.specs.Prelude.{◌≡◌, ◌&&◌, codes, drop, map, option_map, string_bytes, IfOk, IfErr, IfSome, IsErrAnd};
 ghost use Rattle.std.specs.IoError.{error_kind};
 ghost use Rattle.std.specs.Str.{bytes_eq};
+ghost use Rattle.std.specs.Vec.Iter.{into_iter_items};
 ghost use Rattle.tikzsvg.specs.Commands.{asked_by, IsWithinBudgets};
 ghost use Rattle.tikzsvg.specs.HostWords.{IsCauseOf};
 ghost use Rattle.tikzsvg.specs.Words.{is_file_name as is_name, command_of as asked};
@@ -56,6 +57,7 @@ impl From<io::Error> for NoWords {
 
 /// The words that the host told, without the first, which is the program's own name.
 pub fn own_words(alloc: Global, told: io::Result<Args>) -> Result<Vec<String>, NoWords>
+    ensures words { IfOk told (λ all. IfOk result (λ words. words.items ≡ drop 1 (into_iter_items all))) }
     ensures memory { IfOk told (λ _. IfErr result (λ cause. cause ≡ NoWords.OutOfMemory)) }
     ensures cause { IfErr told (λ error. IsErrAnd result (IsCauseOf (error_kind error))) }
 {

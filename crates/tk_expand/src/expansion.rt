@@ -1,9 +1,9 @@
 //! Macro calls: their arguments, their texts, and what they cost.
 
 ghost use Rattle.std.specs.Prelude.{◌≡◌, ◌+◌, ◌-◌, ◌<◌, ◌≤◌, ◌^◌, ℕ, [], ◌++◌, length, true, Ok, Err, MatchOption};
-ghost use Rattle.std.specs.Prelude.{MatchResult, IfOk, IfNone, IsTrue, OnOk, OnErr};
+ghost use Rattle.std.specs.Prelude.{MatchResult, IfOk, IfErr, IfNone, IsTrue, OnOk, OnErr};
 ghost use Rattle.std.specs.Option.{option_to_list, is_some};
-ghost use Rattle.tk_token.specs.Refusals.{Gives};
+ghost use Rattle.tk_token.specs.Refusals.{Gives, OnFault};
 ghost use Rattle.tk_expand.specs.Arguments.{arguments_of, given, with_arguments, put_in};
 ghost use Rattle.tk_expand.specs.Texts.{texts_of};
 ghost use Rattle.tk_expand.specs.Unread.{unread};
@@ -89,6 +89,7 @@ pub fn paid_text(
     ensures text { IfOk result (λ text. text ≡ with_arguments (texts_of arguments.now) body.now) }
     ensures budget { units.new.budget ≡ units.old.budget }
     ensures used { units.old.used ≤ units.new.used }
+    ensures fault { IfErr result (λ e. OnFault e (λ _. units.new ≡ units.old)) }
 
     // More units are spent than tokens come.
     ensures work { IfOk result (λ text. (units.new.budget - units.new.used) + length text

@@ -1,4 +1,4 @@
--- Decimals, digit by digit.
+-- Private: only the code's own contracts use this. Decimals, digit by digit.
 use Rattle.std.specs.Prelude.{ℕ, ◌+◌, ◌*◌, min, nat_lt, if◌then◌else◌, Bool, true, None, Some, ℤ}
 use Rattle.tk_num.specs.Number.{nearest_65536th}
 use Rattle.tk_num.specs.declared.unit.Unit.{Unit}

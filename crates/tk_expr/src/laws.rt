@@ -22,7 +22,7 @@ pub fn a_text_has_one_answer()
         → Evaluates font at toks b → a ≡ b }
 {}
 
-/// The fault of an expression stands at one of its tokens, or at the place of an empty text.
+/// The fault of an expression stands at one of its tokens, or at the given place.
 pub fn a_fault_stands_in_its_text()
     ensures { (font : TheFontUnits) (at : ℕ) (toks : List Tok) (answer : Answer AValue) → Evaluates font at toks answer
         → IfErr answer (λ fault. IsPlaceOf at toks fault.at) }

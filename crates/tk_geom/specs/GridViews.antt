@@ -1,4 +1,4 @@
--- How the code sees the lines of a grid. Only private contracts use this.
+-- Private: only private contracts use this. How the code sees the lines of a grid.
 use Rattle.std.specs.Prelude.{List, ℤ}
 use Rattle.tk_geom.specs.declared.grids.Way.{Way}
 use Rattle.tk_geom.specs.declared.grids.Way.TheVariants.{Upright, Level}

@@ -23,9 +23,9 @@ pub fn arcs_have_few_pieces()
     ensures fewest { (a b : ℤ) (n : ℕ) → unsigned_abs (b -ℤ a) ≤ degrees 90 * n → piece_count a b ≤ n }
 {}
 
-/// An arc begins at the current point, which is where the vector to its first angle leads from its centre, and its last
-/// piece ends at its second angle.
-pub fn arcs_go_on_from_the_current_point()
+/// The angles of an arc's pieces begin at its first angle and end at its second, and a vector that was taken off a
+/// point leads back to it.
+pub fn arcs_run_from_angle_to_angle()
     ensures point { (c v : APoint) → sum_of (difference_of c v) v ≡ c }
     ensures first { (a b : ℤ) (n : ℕ) → angle_at a b n 0 ≡ a }
     ensures last { (a b : ℤ) (n : ℕ) → 1 ≤ n → angle_at a b n n ≡ b }

@@ -16,7 +16,7 @@ pub use arcs::{arc, push_arc};
 pub use circles::{circle, push_circle};
 pub use grids::{grid, push_grid};
 pub use laws::{
-    arcs_go_on_from_the_current_point, arcs_have_few_pieces, multiples_lie_between,
+    arcs_have_few_pieces, arcs_run_from_angle_to_angle, multiples_lie_between,
     small_angles_have_tangents,
 };
 pub use rectangles::{push_rectangle, rectangle};

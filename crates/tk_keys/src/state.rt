@@ -222,6 +222,7 @@ impl State {
           graphics = graphics_below self.old.graphics;
           saved = self.old.graphics ∷ self.old.saved;
         }) }
+        ensures err { OnErr result (self.new ≡ self.old) }
     {
         if self.store.level() >= MOST_LEVELS {
             return Err(Fault {

@@ -23,7 +23,7 @@ use Rattle.tk_path.specs.declared.measures.Sweep.{Sweep}
 use Rattle.tk_path.specs.Configurations.{Configuration, Reached, reached, Lookahead, place_ahead}
 use Rattle.tk_path.specs.Keys.{with_env, put_back, option_list, with_keys}
 
--- those where and how is drawn so
+-- the measures of what is drawn there and so
 abbrev pub measures_of : GraphicsState → Measures
 measures_of g = record {
   matrix = g.matrix;

@@ -19,7 +19,7 @@ unpainted env = record env {
   };
 }
 
--- the run goes on with that
+-- the same, where nothing is drawn or filled
 abbrev pub plain : Configuration → Configuration
 plain c = with_env (unpainted c.env) c
 

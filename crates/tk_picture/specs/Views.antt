@@ -1,4 +1,4 @@
--- What the code holds, as the definitions see it. Only the code's own contracts use this.
+-- Private: only private contracts use this. What the code holds, as the definitions see it.
 use Rattle.std.specs.Prelude.{◌≡◌}
 use Rattle.tk_expand.specs.Unread.{Unread}
 use Rattle.tk_keys.specs.Environment.{first_env}

@@ -37,7 +37,7 @@ new_levels = record { outer = []; top = empty_level }
 abbrev pub opened : Levels → Levels
 opened levels = record { outer = levels.top ∷ levels.outer; top = record levels.top { settings = 0 } }
 
--- of the current level only the settings are others, and they are at most one more
+-- the current level counts as many settings as before, or one more
 pub record CountsOne (old new : Levels) : Type 0 where
   pub low : old.top.settings ≤ new.top.settings
   pub high : new.top.settings ≤ old.top.settings + 1

@@ -1,4 +1,5 @@
--- What is written of a path behind its data, which is kept for the paths that look the same.
+-- Private: only private contracts use this. What is written of a path behind its data, which is kept for the paths that
+-- look the same.
 use Rattle.std.specs.Prelude.{◌≡◌, ℕ, List, ◌++◌, codes, Option}
 use Rattle.tk_item.specs.declared.Fill.{Fill}
 use Rattle.tk_item.specs.declared.Stroke.{Stroke}

@@ -1,4 +1,4 @@
--- What the types of a drawing's parts say of its numbers.
+-- Private: only private contracts use this. What the types of a drawing's parts say of its numbers.
 use Rattle.std.specs.Prelude.{◌<◌, Option, Some, None}
 use Rattle.std.specs.List.{AllByRecursion}
 use Rattle.tk_num.specs.Number.{IsScaled}

@@ -1,4 +1,4 @@
--- The piece in front of characters.
+-- Private: only private contracts use this. The piece in front of characters.
 use Rattle.std.specs.Prelude.{ℕ, List, ◌∷◌}
 use Rattle.tk_token.specs.Token.{Sign, Token}
 use Rattle.tk_token.specs.Cutting.{token_at, Tokens}
