@@ -1,7 +1,9 @@
 -- Private: only private contracts use this. What the code holds, as the definitions see it.
 use Rattle.std.specs.Prelude.{ℕ, ℤ, List, [], Option, Ok, option_map, string_bytes}
-use Rattle.tk_token.specs.Answers.{Answer, ◌>>=◌}
+use Rattle.tk_token.specs.Answers.{Answer, ◌>>=◌, or_fault}
+use Rattle.tk_token.specs.declared.Code.TheVariants.{ValueRequired}
 use Rattle.tk_token.specs.Texts.{text_in, tokens_of}
+use Rattle.tk_store.specs.declared.Need.{Need}
 use Rattle.tk_store.specs.declared.Run.{Run}
 use Rattle.tk_store.specs.Levels.{Macros}
 use Rattle.tk_expand.specs.Expand.{stream, full}
@@ -17,7 +19,7 @@ use Rattle.std.specs.FinMap as map
 use Rattle.tk_look.specs.Graphics.{initial_graphics}
 use Rattle.tk_keys.specs.Environment.{Situation, level, with_paid, with_text}
 use Rattle.tk_keys.specs.Given.{Given}
-use Rattle.tk_keys.specs.Keys.{Deed, Effect, Named, PaidText}
+use Rattle.tk_keys.specs.Keys.{Deed, Effect, Named, PaidText, value_by}
 use Rattle.tk_keys.specs.Settings.{KeyRead, ExpressionValue, Standing, standing, Some_settings, A_key_list}
 use Rattle.tk_keys.specs.Settings.{Set, set_behind, runs, begins_at, dir_behind}
 use Rattle.tk_keys.specs.State.{State, situation_of}
@@ -33,6 +35,10 @@ used_of used s = option_map (λ deed. deed_of deed s) used
 -- what a part leaves
 abbrev pub effect_of : code.Deed → State → List ℕ → Effect
 effect_of deed s dir = record { deed = deed_of deed s; dir = dir }
+
+-- the value that is stored where a key is given that one, by its need
+abbrev pub stored_by : ℕ → Need → Option (List Tok) → Answer (List Tok)
+stored_by at need value = value_by at need value >>= λ taken. or_fault taken ValueRequired at
 
 -- a name that was read
 abbrev pub name_read : List ℕ → State → Named

@@ -14,7 +14,7 @@ ghost use Rattle.tk_look.specs.Graphics.{graphics_by};
 ghost use Rattle.tk_keys.specs.Environment as environment;
 ghost use Rattle.tk_keys.specs.Keys as keys;
 ghost use Rattle.tk_keys.specs.State.{given_of, env_of, situation_of, Keeps, Pays};
-ghost use Rattle.tk_keys.specs.Views.{deed_of, used_of, name_read, expanded_text, paid_by};
+ghost use Rattle.tk_keys.specs.Views.{deed_of, used_of, name_read, expanded_text, paid_by, stored_by};
 
 use crate::State;
 use std::alloc::{AllocError, Global};
@@ -264,22 +264,20 @@ impl State {
         if entry.value.is_none() {
             return Ok(None);
         }
-        let Some(taken) = value_by(at, &entry.need, value)? else {
-            return Err(Refusal::new(Code::ValueRequired, at));
-        };
-        self.keep_value(path, entry, taken)?;
+        let body = stored_by(self.alloc, at, &entry.need, value)?;
+        self.keep_value(path, entry, body)?;
         Ok(Some(done()))
     }
 
     /// An entry has another stored value from there on.
-    fn keep_value(&mut self, path: &str, entry: &Entry, value: &[Tok]) -> Result<(), AllocError>
+    fn keep_value(&mut self, path: &str, entry: &Entry, value: Body) -> Result<(), AllocError>
         ensures set { OnOk result (situation_of self.new
-            ≡ environment.with_key (situation_of self.old) path.now (record entry.now { value = Some value.now })) }
+            ≡ environment.with_key (situation_of self.old) path.now (record entry.now { value = Some value })) }
         ensures kept { OnOk result (Keeps self.old self.new) }
         ensures used { OnOk result (self.old.units ≤ self.new.units) }
     {
-        let value = Some(Body::new(self.alloc, value)?);
         let entry = entry.copy()?;
+        let value = Some(value);
         self.set_entry(path, Entry { value, ..entry })
     }
 
@@ -329,7 +327,7 @@ impl State {
         }
     }
 
-    /// A run takes a value, as the need of an entry says.
+    /// A run takes a value, as the need of an entry says. A text that is stored shares its tokens with the default.
     fn run_entry(
         &mut self,
         at: u32,
@@ -344,6 +342,10 @@ impl State {
         ensures kept { OnOk result (Keeps self.old self.new) }
         ensures used { OnOk result (self.old.units ≤ self.new.units) }
     {
+        if let (Run::StoreIn(word), Need::Default(body), None) = (run, &entry.need, value) {
+            self.set_text(*word, body.copy()?)?;
+            return Ok(done());
+        }
         let taken = value_by(at, &entry.need, value)?;
         self.run_key(at, path, name_in(path), run, taken)
     }
@@ -413,6 +415,20 @@ fn value_by<'a>(
         (Need::Required, None) => Err(Refusal::new(Code::ValueRequired, at)),
         (Need::Forbidden, Some(_)) => Err(Refusal::new(Code::ValueForbidden, at)),
         _ => Ok(value),
+    }
+}
+
+/// The value that is stored where a key is given that one, by its need. It shares its tokens with the default.
+fn stored_by(alloc: Global, at: u32, need: &Need, value: Option<&[Tok]>) -> Result<Body, Refusal>
+    ensures { Gives (λ body. body) result
+        (stored_by at need.now (option_copied value.entry)) }
+{
+    if let (Need::Default(body), None) = (need, value) {
+        return Ok(body.copy()?);
+    }
+    match value_by(at, need, value)? {
+        Some(taken) => Ok(Body::new(alloc, taken)?),
+        None => Err(Refusal::new(Code::ValueRequired, at)),
     }
 }
 
