@@ -1,4 +1,5 @@
--- Private: only private contracts use this. What a file gives: the bytes of its document, or the cause why there is none.
+-- Private: only private contracts use this. What a file gives: the bytes of its document, or the cause why there is
+-- none.
 use Rattle.std.specs.Prelude.{◌≡◌, ℕ, List}
 use Rattle.tk_token.specs.declared.Fault.{Fault}
 use Rattle.tk_token.specs.declared.Refusal.{Refusal}

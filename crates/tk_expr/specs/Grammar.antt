@@ -1,5 +1,5 @@
--- The grammar of expressions (the PGF manual, section Mathematical Expressions). A rule goes from pieces to pieces: `Expression ps t qs` says that ps begins with the
--- expression t, and that qs is left behind it.
+-- The grammar of expressions (the PGF manual, section Mathematical Expressions). A rule goes from pieces to pieces:
+-- `Expression ps t qs` says that ps begins with the expression t, and that qs is left behind it.
 use Rattle.std.specs.Prelude.{◌≡◌, ℕ, ◌+◌, Bool, true, false, List, [], ◌∷◌, Option, Some, None}
 use Rattle.tk_num.specs.Number.{is_decimal}
 use Rattle.tk_num.specs.declared.unit.Unit.{Unit}

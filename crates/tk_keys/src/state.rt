@@ -137,7 +137,8 @@ impl State {
         &self.store
     }
 
-    /// Gives the word with that number a macro, until the current level is closed. On want of memory all stays as it was.
+    /// Gives the word with that number a macro, until the current level is closed. On want of memory all stays as it
+    /// was.
     pub fn set_macro(&mut self, name: u32, value: Macro) -> Result<(), AllocError>
         ensures ok { OnOk result (SetsMacro self.old.levels self.new.levels name value) }
         ensures kept { self.new ≡ record self.old { levels = self.new.levels } }
@@ -238,8 +239,8 @@ impl State {
         Ok(())
     }
 
-    /// Closes the current level: what was set at it ends. This takes no memory, and looks only at what was set: a step is
-    /// one setting that is undone.
+    /// Closes the current level: what was set at it ends. This takes no memory, and looks only at what was set: a step
+    /// is one setting that is undone.
     pub fn close<L: Ledger>(&mut self, steps: &mut Steps<L>)
         requires { 0 < length self.old.levels.outer }
         ensures levels { self.old.levels.outer ≡ self.new.levels.top ∷ self.new.levels.outer }

@@ -55,8 +55,8 @@ module _ (at : ℕ) (ev : Evaluation) (font : FontUnits) where
     others ← dash_lengths ds
     Ok (on ∷ (off ∷ others))
 
-  -- the lengths of a pattern of at most 8 dashes and 8 gaps, 16 lengths, which begins with a word; its words are asked before any length
-  -- is read
+  -- the lengths of a pattern of at most 8 dashes and 8 gaps, 16 lengths, which begins with a word; its words are asked
+  -- before any length is read
   abbrev pub pattern_lengths : List Tok → Answer (List ℤ)
   pattern_lengths list = do
     ds ← or_fault (all_dashes 8 list) Domain at
