@@ -9,7 +9,7 @@ use tk_token::{Code, Fault, Refusal};
 
 /// A line of a picture, the budget, and the units that it costs with the paths that it draws, or its fault with the
 /// column, counted from 1. One centimetre is 1,864,679 scaled points.
-const LINES: [(&str, u64, &str); 69] = [
+const LINES: [(&str, u64, &str); 72] = [
     ("", 0, "0"),
     (r"\draw (0,0) -- (1,0);", 0, "0, M 0 0 L 1864679 0"),
     // A Move alone draws nothing.
@@ -34,6 +34,14 @@ const LINES: [(&str, u64, &str); 69] = [
     (r"\def\x{}\x\x\x", 2, "Budget 13"),
     // The costs are 6, 8, 12, 20, 36, then 68.
     (r"\def\f#1{\f{#1#1}}\f{x}", 149, "Budget 10"),
+    (r"\def\f#1{\f{#1#1}}\f{x}", 100, "Budget 10"),
+    // A path of 16 tokens.
+    (
+        r"\def\g{\draw (0,0) -- (1,0);}\g",
+        17,
+        "17, M 0 0 L 1864679 0",
+    ),
+    (r"\def\g{\draw (0,0) -- (1,0);}\g", 16, "Budget 30"),
     // A definition lasts to the end of its group.
     (
         r"{\def\x{1}\draw (0,0) -- (\x,0);}",
