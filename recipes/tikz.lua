@@ -1,7 +1,9 @@
--- A filter of pandoc: fenced code of the class `tikz`, and raw TeX that is a `tikzpicture`, becomes a picture, and a fault in it ends
--- pandoc. The attribute `alt` is the picture's text, and `caption` makes a figure of it; the others go to the picture, as an identifier
--- and further classes do. It wants tikzsvg-mark beside it, which calls tikzsvg, or what the environment variable TIKZSVG names.
+-- A filter of pandoc: fenced code of the class `tikz`, and each `tikzpicture` that stands in the page as TeX, becomes a picture, and a
+-- fault in it ends pandoc. The attribute `alt` is the picture's text, and `caption` makes a figure of it; the others go to the picture,
+-- as an identifier and further classes do. It wants tikzsvg-mark beside it, which calls tikzsvg, or what the environment variable
+-- TIKZSVG names.
 
+local page = PANDOC_STATE.input_files[1] or "-"
 local mark = pandoc.path.join {pandoc.path.directory(PANDOC_SCRIPT_FILE), "tikzsvg-mark"}
 local count = 0
 
@@ -11,7 +13,7 @@ local in_document = pandoc.List {"docx", "odt", "pptx", "epub", "epub2", "epub3"
 local as_pdf = pandoc.List {"latex", "beamer", "context"}
 
 local function say(text)
-  io.stderr:write(("tikz.lua: picture %d: %s\n"):format(count, text))
+  io.stderr:write(("tikz.lua: picture %d of %s: %s\n"):format(count, page, text))
 end
 
 local function drawn(source)
@@ -75,9 +77,16 @@ function CodeBlock(block)
   return picture(block.text, pandoc.Attr(block.identifier, classes, block.attributes))
 end
 
+-- TeX in the page: an environment, which is a `tikzpicture` or has some in it. LaTeX and Beamer read it themselves.
 function RawBlock(block)
   local is_tex = block.format == "tex" or block.format == "latex"
-  if not is_tex or not block.text:find("^%s*\\begin{tikzpicture}") then return nil end
-  if FORMAT == "latex" or FORMAT == "beamer" then return nil end  -- there TeX reads the source itself
-  return picture(block.text, pandoc.Attr())
+  if not is_tex or FORMAT == "latex" or FORMAT == "beamer" or not block.text:find("^%s*\\begin{") then return nil end
+  local pictures = pandoc.List {}
+  local rest = block.text:gsub("\\begin{tikzpicture}.-\\end{tikzpicture}", function(source)
+    pictures:insert(picture(source, pandoc.Attr()))
+    return ""
+  end)
+  if #pictures == 0 then return nil end
+  if rest:find("%S") then say("the TeX round it is left out") end
+  return pictures
 end
