@@ -1,13 +1,13 @@
--- A filter of pandoc: fenced code of the class `tikz`, and each `tikzpicture` that stands in the page as TeX, becomes a picture, and a
--- fault in it ends pandoc. The attribute `alt` is the picture's text, and `caption` makes a figure of it; the others go to the picture,
--- as an identifier and further classes do. It wants tikzsvg-mark beside it, which calls tikzsvg, or what the environment variable
--- TIKZSVG names.
+-- A filter of pandoc: fenced code of the class `tikz`, and each `tikzpicture` that stands in the page as TeX, becomes a
+-- picture, and a fault in it ends pandoc. The attribute `alt` is the picture's text, and `caption` makes a figure of it; an
+-- identifier, further classes and all other attributes go to the picture. It wants tikzsvg-mark beside it, which calls tikzsvg,
+-- or what the environment variable TIKZSVG names.
 
 local page = PANDOC_STATE.input_files[1] or "-"
 local mark = pandoc.path.join {pandoc.path.directory(PANDOC_SCRIPT_FILE), "tikzsvg-mark"}
 local count = 0
 
--- The formats in whose pages a picture stands itself; those that take its file into the document; and those that want a PDF of it.
+-- The formats in whose pages a picture stands itself; those that take its file into the document; those that want a PDF.
 local in_page = pandoc.List {"html", "html4", "html5", "chunkedhtml", "revealjs", "slidy", "slideous", "dzslides", "s5"}
 local in_document = pandoc.List {"docx", "odt", "pptx", "epub", "epub2", "epub3", "fb2", "ipynb", "rtf"}
 local as_pdf = pandoc.List {"latex", "beamer", "context"}

@@ -1,4 +1,4 @@
-"""An extension of Sphinx: the directive `tikz` shows its content as a picture. It has the options of `image`, such as `alt`.
+"""An extension of Sphinx: the directive `tikz` shows its content as a picture, and has the options of `image`, such as `alt`.
 
 It wants tikzsvg-mark beside it, which calls tikzsvg, or what the environment variable TIKZSVG names.
 """
@@ -37,7 +37,8 @@ class Tikz(Image, SphinxDirective):
         return super().run()
 
     def set_size(self, svg):
-        """Makes numbers of pixels of `width`, `height` and `scale`: Sphinx measures SVG wrongly, and hands a browser other units as pixels."""
+        """Makes numbers of pixels of `width`, `height` and `scale`: of an SVG Sphinx takes the points for something else,
+        and hands the numbers of all units to a browser, which takes them for pixels."""
         percent = self.options.pop("scale", None)
         if percent and not {"width", "height"} & self.options.keys():
             self.options["width"] = re.search(rb'width="([^"]*)"', svg)[1].decode()
@@ -47,7 +48,7 @@ class Tikz(Image, SphinxDirective):
             self.options[side] = f"{number:.5g}" + ("" if unit in PIXELS else unit)
 
     def place_of(self, svg):
-        """The place of a picture's file as Sphinx wants it, from the folder of the pages. Files lie beside Sphinx's own of the build."""
+        """The place of a picture's file, seen from the pages' folder, as Sphinx wants it. It lies among the build's own files."""
         folder = Path(self.env.doctreedir, "tikz")
         folder.mkdir(parents=True, exist_ok=True)
         file = folder / f"tikz-{hashlib.sha1(svg).hexdigest()[:16]}.svg"
@@ -55,7 +56,7 @@ class Tikz(Image, SphinxDirective):
         return "/" + Path(os.path.relpath(file, self.env.srcdir)).as_posix()
 
     def fault(self, said):
-        """What tikzsvg-mark said, at the fault's line of the page: in `-:2:13: PathSyntax` the 2 counts from the first of the content."""
+        """What tikzsvg-mark said, at its line of the page: in `-:2:13: PathSyntax` the 2 counts from the content's first."""
         said, _, marked = said.strip().partition("\n")
         place = re.match(r"-:(\d+):", said)
         line = self.content_offset + int(place[1]) if place else self.lineno
