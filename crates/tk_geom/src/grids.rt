@@ -21,7 +21,7 @@ use tk_token::{Code, Refusal};
 
 /// Which way a line goes.
 #[derive(Clone, Copy)]
-enum Way {
+enum LineDirection {
     Upright,
     Level,
 }
@@ -53,7 +53,7 @@ impl Model for GridLine {
 /// The lines of a grid that go one way: so many, at the multiples of a step from the multiple `first` on.
 #[derive(Clone, Copy)]
 struct Parallels {
-    way: Way,
+    way: LineDirection,
     step: Scaled,
     first: i64,
     count: u64,
@@ -113,7 +113,7 @@ fn corners(m: &Matrix, p: &Point, q: &Point) -> Result<(Point, Point), AffFault>
 }
 
 /// The lines of a grid that go one way: at the multiples of a step about a span, each from end to end of the other.
-fn lines_about(way: Way, step: Scaled, about: &Span, ends: &Span) -> Parallels
+fn lines_about(way: LineDirection, step: Scaled, about: &Span, ends: &Span) -> Parallels
     requires { pos 0 <ℤ step }
     ensures value { lines_of result ≡ spec.lines_at (line_at way ends.now.low ends.now.high) step
         (spec.multiples_about about.now.low about.now.high step) }
@@ -142,16 +142,16 @@ fn multiple_at(lines: &Parallels, i: u64) -> i64
 }
 
 /// A line of a grid.
-fn line_at(way: Way, ends: &Span, position: i64) -> GridLine
+fn line_at(way: LineDirection, ends: &Span, position: i64) -> GridLine
     ensures { result ≡ line_at way ends.now.low ends.now.high position }
 {
     let (low, high) = (ends.low.sp(), ends.high.sp());
     match way {
-        Way::Upright => GridLine {
+        LineDirection::Upright => GridLine {
             from: Place::new(position, low),
             to: Place::new(position, high),
         },
-        Way::Level => GridLine {
+        LineDirection::Level => GridLine {
             from: Place::new(low, position),
             to: Place::new(high, position),
         },
@@ -244,8 +244,8 @@ fn push_between(
         low: low.y,
         high: high.y,
     };
-    let uprights = lines_about(Way::Upright, sx, &across, &upward);
-    let levels = lines_about(Way::Level, sy, &upward, &across);
+    let uprights = lines_about(LineDirection::Upright, sx, &across, &upward);
+    let levels = lines_about(LineDirection::Level, sy, &upward, &across);
     push_lines(segs, m, &uprights, units, at)?;
     push_lines(segs, m, &levels, units, at)?;
     Ok(())
