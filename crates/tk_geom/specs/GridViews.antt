@@ -12,4 +12,4 @@ line_at Level low high y = level_line low high y
 
 -- the lines that go one way
 abbrev pub lines_of : Parallels → List GridLine
-lines_of lines = lines_at (line_at lines.way lines.ends.low lines.ends.high) lines.step (rising lines.first lines.count)
+lines_of lines = lines_at (line_at lines.direction lines.ends.low lines.ends.high) lines.step (rising lines.first lines.count)

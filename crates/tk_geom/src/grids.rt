@@ -53,7 +53,7 @@ impl Model for GridLine {
 /// The lines of a grid that go one way: so many, at the multiples of a step from the multiple `first` on.
 #[derive(Clone, Copy)]
 struct Parallels {
-    way: LineDirection,
+    direction: LineDirection,
     step: Scaled,
     first: i64,
     count: u64,
@@ -113,9 +113,9 @@ fn corners(m: &Matrix, p: &Point, q: &Point) -> Result<(Point, Point), AffFault>
 }
 
 /// The lines of a grid that go one way: at the multiples of a step about a span, each from end to end of the other.
-fn lines_about(way: LineDirection, step: Scaled, about: &Span, ends: &Span) -> Parallels
+fn lines_about(direction: LineDirection, step: Scaled, about: &Span, ends: &Span) -> Parallels
     requires { pos 0 <ℤ step }
-    ensures value { lines_of result ≡ spec.lines_at (line_at way ends.now.low ends.now.high) step
+    ensures value { lines_of result ≡ spec.lines_at (line_at direction ends.now.low ends.now.high) step
         (spec.multiples_about about.now.low about.now.high step) }
     ensures first { unsigned_abs result.first ≤ 1084479242 }
     ensures count { result.count ≤ 2168958485 }
@@ -124,7 +124,7 @@ fn lines_about(way: LineDirection, step: Scaled, about: &Span, ends: &Span) -> P
     let first = ceiling_of(about.low.sp() - edge, step.sp());
     let last = floor_of(about.high.sp() + edge, step.sp());
     Parallels {
-        way,
+        direction,
         step,
         first,
         count: count_between(first, last),
@@ -142,11 +142,11 @@ fn multiple_at(lines: &Parallels, i: u64) -> i64
 }
 
 /// A line of a grid.
-fn line_at(way: LineDirection, ends: &Span, position: i64) -> GridLine
-    ensures { result ≡ line_at way ends.now.low ends.now.high position }
+fn line_at(direction: LineDirection, ends: &Span, position: i64) -> GridLine
+    ensures { result ≡ line_at direction ends.now.low ends.now.high position }
 {
     let (low, high) = (ends.low.sp(), ends.high.sp());
-    match way {
+    match direction {
         LineDirection::Upright => GridLine {
             from: Place::new(position, low),
             to: Place::new(position, high),
@@ -211,7 +211,7 @@ fn push_lines(
     ensures kept { Continues segs.old segs.new }
 {
     for i in 0..lines.count {
-        let line = line_at(lines.way, &lines.ends, multiple_at(lines, i));
+        let line = line_at(lines.direction, &lines.ends, multiple_at(lines, i));
         push_line(segs, m, line, units, at)?;
     }
     Ok(())
