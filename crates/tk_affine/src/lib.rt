@@ -3,6 +3,7 @@
 #![tactic(auto)]
 
 mod directions;
+mod faults;
 mod images;
 mod inverses;
 mod laws;
@@ -10,6 +11,7 @@ mod numbers;
 mod steps;
 
 pub use directions::along;
+pub use faults::answer_at;
 pub use images::{apply, apply_vector};
 pub use inverses::{corner, inverse_apply};
 pub use laws::{steps_go_on, unmoved_is_neutral, unmoved_points_stay};

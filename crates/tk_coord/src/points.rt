@@ -6,16 +6,16 @@ ghost use Rattle.tk_token.specs.Spaces.{trimmed};
 ghost use Rattle.tk_expr.specs.Evaluated.{evaluated};
 ghost use Rattle.tk_expr.specs.Evaluates.{Evaluation, IsEvaluation};
 ghost use Rattle.tk_expr.specs.Pairs.{paired};
-ghost use Rattle.tk_look.specs.Graphics.{answer_at};
+ghost use Rattle.tk_affine.specs.Faults.{answer_at};
 ghost use Rattle.tk_coord.specs.Coordinates as spec;
 
 use crate::Target;
 use crate::corners::{CornerStart, corners_from, sign_in_front};
 use std::alloc::Global;
-use tk_affine::{Matrix, apply, apply_vector};
+use tk_affine::{Matrix, answer_at, apply, apply_vector};
 use tk_expr::{FontUnits, ValuePair, pair, vector};
 use tk_item::Point;
-use tk_look::{Look, answer_at};
+use tk_look::Look;
 use tk_num::add;
 use tk_token::{Code, Fault, Refusal, Sought, Tok, first_outside, trimmed, without_first};
 

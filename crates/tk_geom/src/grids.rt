@@ -12,10 +12,9 @@ use crate::lists::push_all;
 use crate::places::{Place, xy};
 use std::alloc::Global;
 use std::marker::Model;
-use tk_affine::{AffFault, Matrix, apply, inverse_apply};
+use tk_affine::{AffFault, Matrix, answer_at, apply, inverse_apply};
 use tk_expand::Units;
 use tk_item::{Point, Seg, Segs};
-use tk_look::answer_at;
 use tk_num::Scaled;
 use tk_token::{Code, Refusal};
 
