@@ -44,7 +44,7 @@ pub fn lex(alloc: Global, source: &[u8]) -> Result<Lexed, Refusal>
 {
     let text = text_of(source)?;
     let lexed = cut(alloc, text)?;
-    balanced(alloc, &lexed.toks)?;
+    balanced(&lexed.toks)?;
     Ok(lexed)
 }
 
