@@ -1,18 +1,13 @@
 -- The matrix of a list of steps. The step that is written last is the first that a point goes through.
-use Rattle.std.specs.Prelude.{List, [], ◌∷◌, Result, Ok, Err, ℤ, pos, neg_ℤ}
+use Rattle.std.specs.Prelude.{List, [], ◌∷◌, Result, Ok, ℤ, pos, neg_ℤ}
 use Rattle.tk_num.specs.Number.{IsScaled}
 use Rattle.tk_num.specs.Angle.{sine, cosine}
+use Rattle.tk_token.specs.Answers.{◌>>=◌}
 use Rattle.tk_affine.specs.declared.AffFault.{AffFault}
 use Rattle.tk_affine.specs.declared.Matrix.{Matrix}
 use Rattle.tk_affine.specs.declared.Step.{Step}
 use Rattle.tk_affine.specs.declared.Step.TheVariants.{Shift, Rotate, Scale, Slant, Cm}
 use Rattle.tk_affine.specs.Images.{vector_image, image}
-
-infixl 10 ◌>>=◌
--- f of the value; a fault is passed on at once
-abbrev pub ◌>>=◌ : {A B : Type 0} → Result A AffFault → (A → Result B AffFault) → Result B AffFault
-(Ok x) >>= f = f x
-(Err e) >>= f = Err e
 
 -- a shift alone
 abbrev pub shifted : ℤ → ℤ → Matrix

@@ -2,10 +2,10 @@
 -- end.
 use Rattle.std.specs.Prelude.{◌≤◌, ◌^◌, if◌then◌else◌, Result, Ok, ℤ, pos, ◌+ℤ◌, ◌-ℤ◌, ◌*ℤ◌, int_div, int_lt}
 use Rattle.std.specs.Prelude.{unsigned_abs}
+use Rattle.tk_token.specs.Answers.{◌>>=◌}
 use Rattle.tk_item.specs.declared.Point.{Point}
 use Rattle.tk_affine.specs.declared.AffFault.{AffFault}
 use Rattle.tk_affine.specs.Images.{point_at}
-use Rattle.tk_affine.specs.Steps.{◌>>=◌}
 use Rattle.tk_geom.specs.declared.Last.{Last}
 use Rattle.tk_geom.specs.declared.Last.TheVariants.{Nowhere, Line, Corner, Curve}
 use Rattle.tk_geom.specs.Pieces.{difference_of}
