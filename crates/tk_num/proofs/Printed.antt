@@ -16,13 +16,6 @@ use Rattle.tk_num.specs.Text.{sign_text, part_text, fewest_digits, nearest_digit
 pub length-whole : (w : ℕ) → w ≤ 140737488355328 → length (decimal w) ≤ 15
 length-whole w le = length-decimal-le 15 w (omega arith) (omega arith) (omega arith)
 
--- a digit, and a digit more
-pub length-first : (w : ℕ) → w < 10 → length (decimal w) ≡ 1
-length-first w lt = ap length (decimal_digit w lt)
-
-pub length-last : (w : ℕ) → 10 ≤ w → w < 2 ^ 64 → length (decimal w) ≡ length (decimal (w / 10)) + 1
-length-last w le lt = ap length (decimal_step w le lt) ∙ length-append (decimal (w / 10)) ((48 + w % 10) ∷ [])
-
 not_zero : (n : ℕ) → n ≢ 0 → eqb n 0 ≡ false
 not_zero n ne = grind (arith, nat_tests)
 

@@ -8,6 +8,7 @@ ghost use Rattle.tk_num.specs.Text.{unsigned_text, places, IsTextOf, IsPointedTe
 ghost use Rattle.tk_num.specs.Text.{part_text};
 
 use arrayvec::{ArrayString, ArrayVec};
+use itoa::Buffer;
 
 /// The characters of numbers: room for two, and for what stands before and between them.
 pub type Digits = ArrayVec<u8, 48>;
@@ -56,12 +57,10 @@ fn push_whole(out: &mut Digits, whole: u64)
     ensures text { out.new.items ≡ out.old.items ++ decimal whole }
     ensures length { array_vec_len out.new ≡ array_vec_len out.old + length (decimal whole) }
 {
-    if whole < 10 {
-        out.push(b'0' + whole as u8);
-        return;
+    match out.try_extend_from_slice(Buffer::new().format(whole).as_bytes()) {
+        Ok(()) => {}
+        Err(_) => unreachable!(),
     }
-    push_whole(out, whole / 10);
-    out.push(b'0' + (whole % 10) as u8);
 }
 
 /// Puts a minus before a negative number at the end.
