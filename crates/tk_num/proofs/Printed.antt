@@ -1,12 +1,12 @@
 -- What the printing calls put together.
-use Rattle.std.proofs.Common.{◌≡◌, ◌≢◌, ℕ, ◌+◌, ◌/◌, ◌%◌, ◌^◌, ◌<◌, ◌≤◌, Bool, true, false, eqb, List, [], ◌∷◌, ◌++◌, length, ℤ, unsigned_abs, refl}
-use Rattle.std.proofs.Common.{sym, ap, subst, lit<, eq-eqb, ◌∙◌, arith, append_assoc, append-nil, length-append, SFits}
+use Rattle.std.proofs.Common.{◌≡◌, ◌≢◌, ℕ, ◌/◌, ◌%◌, ◌^◌, ◌<◌, ◌≤◌, Bool, true, false, eqb, List, [], ◌∷◌, ◌++◌, length, ℤ, unsigned_abs, refl}
+use Rattle.std.proofs.Common.{sym, ap, subst, lit<, eq-eqb, ◌∙◌, arith, append_assoc, append-nil, SFits}
 use Rattle.std.specs.Prelude.{negsuc, pos, IsAscii, IsUtf8}
 use Rattle.std.proofs.lemmas.Bool.{eqb-true}
 use Rattle.std.proofs.lemmas.Bool.Decides.{nat_tests}
 use Rattle.std.proofs.lemmas.Str.{IsAscii-append, IsUtf8-from_ascii}
 use Rattle.std.proofs.lemmas.Str.Ascii.{IsAscii-nil, IsAscii-cons}
-use Rattle.std.proofs.lemmas.Fmt.{length-decimal-le, decimal_digit, decimal_step, IsAscii-decimal, IsAscii-from_digits}
+use Rattle.std.proofs.lemmas.Fmt.{length-decimal-le, IsAscii-decimal, IsAscii-from_digits}
 use Rattle.std.specs.Fmt.{decimal}
 use Rattle.std.specs.Int.{w64}
 use Rattle.std.proofs.Math.Facts.{Fits-nat_abs}
