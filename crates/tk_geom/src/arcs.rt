@@ -191,7 +191,8 @@ pub fn push_arc(
     rx: Scaled,
     ry: Scaled,
 ) -> Result<Result<(), AffFault>, AllocError>
-    ensures gives { IfOk result (λ done. Appends segs.old segs.new done (spec.arc_pieces m c a b rx ry)) }
+    ensures gives { IfOk result
+        (λ done. Appends segs.old segs.new done (spec.arc_pieces m c a b rx ry)) }
     ensures kept { Continues segs.old segs.new }
 {
     let count = piece_count(a, b);

@@ -114,7 +114,8 @@ fn corners(m: &Matrix, p: &Point, q: &Point) -> Result<(Point, Point), AffFault>
 /// The lines of a grid that go one way: at the multiples of a step about a span, each from end to end of the other.
 fn lines_about(direction: LineDirection, step: Scaled, about: &Span, ends: &Span) -> Parallels
     requires { pos 0 <ℤ step }
-    ensures value { lines_of result ≡ spec.lines_at (line_at direction ends.now.low ends.now.high) step
+    ensures value { lines_of result
+        ≡ spec.lines_at (line_at direction ends.now.low ends.now.high) step
         (spec.multiples_about about.now.low about.now.high step) }
     ensures first { unsigned_abs result.first ≤ 1084479242 }
     ensures count { result.count ≤ 2168958485 }
@@ -183,7 +184,8 @@ fn push_line(
     at: u32,
 ) -> Result<(), Refusal>
     ensures gives { Gives (λ _. grids.grid_of segs.new units.new.used) result
-        (grids.grid_appended segs.old (grids.line_drawn m.now units.old.budget at units.old.used line)) }
+        (grids.grid_appended segs.old
+        (grids.line_drawn m.now units.old.budget at units.old.used line)) }
     ensures budget { units.new.budget ≡ units.old.budget }
     ensures kept { Continues segs.old segs.new }
 {
@@ -231,7 +233,8 @@ fn push_between(
     requires sy { pos 0 <ℤ sy }
     ensures gives { Gives (λ _. grids.grid_of segs.new units.new.used) result
         (grids.grid_appended segs.old
-        (grids.lines_drawn m.now units.old.budget at units.old.used (spec.grid_lines low.now high.now sx sy))) }
+        (grids.lines_drawn m.now units.old.budget at units.old.used
+        (spec.grid_lines low.now high.now sx sy))) }
     ensures budget { units.new.budget ≡ units.old.budget }
     ensures kept { Continues segs.old segs.new }
 {
@@ -281,7 +284,8 @@ pub fn push_grid(
     at: u32,
 ) -> Result<(), Refusal>
     ensures gives { Gives (λ _. grids.grid_of segs.new units.new.used) result
-        (grids.grid_appended segs.old (grids.grid_pieces m p q sx sy units.old.budget at units.old.used)) }
+        (grids.grid_appended segs.old
+        (grids.grid_pieces m p q sx sy units.old.budget at units.old.used)) }
     ensures budget { units.new.budget ≡ units.old.budget }
     ensures kept { Continues segs.old segs.new }
 {

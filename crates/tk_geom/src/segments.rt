@@ -138,8 +138,10 @@ fn on_axes(u: Scaled, t: Scaled, x: &Axis, y: &Axis) -> Result<(Point, i64, i64)
     requires u { unsigned_abs u ≤ 589824 }
     requires t { unsigned_abs t ≤ 589824 }
     ensures value { result ≡ spec.waypoint_at
-        (spec.cubic u t x.now.a x.now.b x.now.c x.now.d) (spec.cubic u t y.now.a y.now.b y.now.c y.now.d)
-        (spec.heading u t x.now.a x.now.b x.now.c x.now.d) (spec.heading u t y.now.a y.now.b y.now.c y.now.d) }
+        (spec.cubic u t x.now.a x.now.b x.now.c x.now.d)
+        (spec.cubic u t y.now.a y.now.b y.now.c y.now.d)
+        (spec.heading u t x.now.a x.now.b x.now.c x.now.d)
+        (spec.heading u t y.now.a y.now.b y.now.c y.now.d) }
     ensures short { IfOk result spec.IsShort }
 {
     waypoint_at(

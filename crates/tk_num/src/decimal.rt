@@ -33,7 +33,8 @@ static POWERS: [u64; 13] = [
 
 /// The number that digits write, where it is at most the greatest whole part.
 fn whole_number(digits: &[u8]) -> Option<u64>
-    ensures { SomeIff result ((list_all is_ascii_digit digits.now ≡ true) × (digits_value 10 digits.now ≤ 1073741823))
+    ensures { SomeIff result
+        ((list_all is_ascii_digit digits.now ≡ true) × (digits_value 10 digits.now ≤ 1073741823))
         (digits_value 10 digits.now) }
 {
     let mut value: u64 = 0;

@@ -77,7 +77,8 @@ fn push_sign(out: &mut Digits, sp: i64)
 /// Puts the sign and the whole part of a number at the end.
 fn push_front(out: &mut Digits, sp: i64)
     requires room { array_vec_len out.old + 16 ≤ 48 }
-    ensures text { out.new.items ≡ out.old.items ++ (sign_text sp ++ decimal (unsigned_abs sp / 65536)) }
+    ensures text { out.new.items
+        ≡ out.old.items ++ (sign_text sp ++ decimal (unsigned_abs sp / 65536)) }
     ensures short { array_vec_len out.new ≤ array_vec_len out.old + 16 }
 {
     push_sign(out, sp);
@@ -142,9 +143,10 @@ pub fn print_tex(sp: i64) -> ArrayString<24>
 
 /// There is one text of a number, and one that TeX prints.
 pub fn text_is_unique()
-    ensures text { (sp : ℤ) → (text : List ℕ) → unsigned_abs sp < 2 ^ 64 → IsTextOf sp text → text ≡ text_of sp }
-    ensures pointed { (sp : ℤ) → (text : List ℕ) → unsigned_abs sp < 2 ^ 64 → IsPointedTextOf sp text
-        → text ≡ pointed_text sp }
+    ensures text { (sp : ℤ) → (text : List ℕ) → unsigned_abs sp < 2 ^ 64
+        → IsTextOf sp text → text ≡ text_of sp }
+    ensures pointed { (sp : ℤ) → (text : List ℕ) → unsigned_abs sp < 2 ^ 64
+        → IsPointedTextOf sp text → text ≡ pointed_text sp }
 {}
 
 /// The text of a number without its sign reads back as its size, and no text with fewer digits after the

@@ -84,7 +84,8 @@ pub fn with_unit(
 ) -> Result<Scaled, NumFault>
     requires whole { IsWhole whole }
     requires frac { IsFraction frac }
-    ensures { result ≡ scaled (length_in unit (65536 * unsigned_abs whole + unsigned_abs frac) em ex) }
+    ensures { result
+        ≡ scaled (length_in unit (65536 * unsigned_abs whole + unsigned_abs frac) em ex) }
 {
     in_range(length_in_unit(whole, frac, unit, em, ex))
 }

@@ -18,7 +18,8 @@ type OpenBraces = ArrayVec<u32, MOST_OPEN>;
 /// A source as text.
 pub(crate) fn text_of(source: &[u8]) -> Result<&str, Fault>
     requires { length source.now ≤ 16777216 }
-    ensures { MatchResult result (λ text. (text.now ≡ source.now) × (text_fault source.now ≡ None))
+    ensures { MatchResult result
+        (λ text. (text.now ≡ source.now) × (text_fault source.now ≡ None))
         (λ fault. text_fault source.now ≡ Some fault) }
 {
     let text = match str::from_utf8(source) {
@@ -58,7 +59,8 @@ fn is_refused(character: char) -> bool
 
 /// Asks that braces balance, and that no more than 256 are open at once. This takes no memory.
 pub(crate) fn balanced(toks: &[Tok]) -> Result<(), Fault>
-    ensures { (names : List (List ℕ)) → result_map_both (λ _. map (token_of names) toks.now) (λ fault. fault) result
+    ensures { (names : List (List ℕ))
+        → result_map_both (λ _. map (token_of names) toks.now) (λ fault. fault) result
         ≡ balanced (map (token_of names) toks.now) }
 {
     let mut open_at = OpenBraces::new();
@@ -73,7 +75,8 @@ pub(crate) fn balanced(toks: &[Tok]) -> Result<(), Fault>
 
 /// Takes a token into the places of the braces that are open.
 fn open_after(open_at: &mut OpenBraces, tok: Tok) -> Result<(), Fault>
-    ensures { (names : List (List ℕ)) → result_map_both (λ _. reverse open_at.new.items) (λ fault. fault) result
+    ensures { (names : List (List ℕ))
+        → result_map_both (λ _. reverse open_at.new.items) (λ fault. fault) result
         ≡ open_after (reverse open_at.old.items) (sign_of names tok.kind) tok.at }
 {
     match tok.kind {

@@ -87,7 +87,8 @@ fn has_bar(list: &[Tok]) -> bool
 /// The tokens before that character, at its first place outside braces, and those behind it: `a=b` is parted into `a`
 /// and `b` by `=`. There are none where `first_outside` has none.
 pub fn before_char(list: &[Tok], wanted: char) -> Option<(&[Tok], &[Tok])>
-    ensures { option_map (λ found. cut found.0.now found.1.now) result ≡ groups.before_char wanted list.now }
+    ensures { option_map (λ found. cut found.0.now found.1.now) result
+        ≡ groups.before_char wanted list.now }
 {
     let (front, rest) = first_outside(list, Sought::Char(wanted))?;
     Some((front, without_first(rest, 1)))
@@ -156,7 +157,8 @@ pub fn begins_three(
     second_wanted: char,
     third_wanted: char,
 ) -> bool
-    ensures { result ≡ kinds.begins_text (first_wanted ∷ second_wanted ∷ third_wanted ∷ []) list.now }
+    ensures { result
+        ≡ kinds.begins_text (first_wanted ∷ second_wanted ∷ third_wanted ∷ []) list.now }
 {
     match list.split_first() {
         Some((first, rest)) => {
