@@ -1,6 +1,7 @@
 -- Points that are sought by their images, and corners and directions along the axes of a matrix.
 use Rattle.std.specs.Prelude.{◌==◌, ◌≤◌, if◌then◌else◌, Result, Ok, Err, ℤ, pos, neg_ℤ, ◌+ℤ◌, ◌-ℤ◌, ◌*ℤ◌, int_div, int_lt}
 use Rattle.std.specs.Prelude.{unsigned_abs}
+use Rattle.tk_num.specs.Number.{one}
 use Rattle.tk_item.specs.declared.Point.{Point}
 use Rattle.tk_affine.specs.declared.AffFault.{AffFault}
 use Rattle.tk_affine.specs.declared.AffFault.TheVariants.{Singular}
@@ -32,8 +33,8 @@ unfoldable pub inverse_image : Matrix → Point → Result Point AffFault
 inverse_image m p =
     let x = p.x -ℤ m.tx in
     let y = p.y -ℤ m.ty in
-    let first = share m (pos 65536) (along_first m x y) in
-    let second = share m (pos 65536) (along_second m x y) in
+    let first = share m (pos one) (along_first m x y) in
+    let second = share m (pos one) (along_second m x y) in
     by_inverse m (point_at first second)
 
 -- the corner between p and q: from p along the first axis until only the second leads to q

@@ -7,7 +7,7 @@ ghost use Rattle.tk_affine.specs.Inverses.{IsRay};
 use crate::numbers::{difference, difference_of_products, point, share, signed_by};
 use crate::{AffFault, Matrix};
 use tk_item::Point;
-use tk_num::Scaled;
+use tk_num::{ONE, Scaled};
 
 /// a*d - b*c, which is 0 where all images lie on one line.
 fn determinant(m: &Matrix) -> i64
@@ -52,8 +52,8 @@ pub fn inverse_apply(m: Matrix, p: Point) -> Result<Point, AffFault>
         return Err(AffFault::Singular);
     }
     let (dx, dy) = (difference(p.x, m.tx), difference(p.y, m.ty));
-    let x = share(65536, along_first(&m, dx, dy), whole);
-    let y = share(65536, along_second(&m, dx, dy), whole);
+    let x = share(ONE, along_first(&m, dx, dy), whole);
+    let y = share(ONE, along_second(&m, dx, dy), whole);
     point(x, y)
 }
 
