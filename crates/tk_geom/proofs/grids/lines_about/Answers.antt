@@ -1,4 +1,4 @@
-use Rattle.std.proofs.Common.{◌≡◌, ◌∙◌, ap, ℕ, ℤ, pos, ◌+ℤ◌, ◌-ℤ◌, int_div, unsigned_abs, ◌≤◌, arith}
+use Rattle.std.proofs.Common.{◌≡◌, ◌∙◌, ap, ℕ, ℤ, pos, ◌+ℤ◌, ◌-ℤ◌, int_div}
 use Rattle.tk_affine.proofs.Wide.{fits_scaled}
 use Rattle.tk_geom.specs.GridLines.{multiples_between, ceiling_of, floor_of, count_between, rising, lines_at}
 use Rattle.tk_geom.specs.GridViews.{line_at}
