@@ -1,9 +1,10 @@
 -- The matrix of a list of steps, where more steps follow.
 use Rattle.std.proofs.Common.{◌≡◌, List, [], ◌∷◌, ◌++◌, Result, Ok, Err, refl, ◌∙◌}
+use Rattle.tk_token.specs.Answers.{◌>>=◌}
 use Rattle.tk_affine.specs.declared.AffFault.{AffFault}
 use Rattle.tk_affine.specs.declared.Matrix.{Matrix}
 use Rattle.tk_affine.specs.declared.Step.{Step}
-use Rattle.tk_affine.specs.Steps.{◌>>=◌, with_step, with_steps, then_step, then_steps, unmoved, matrix_of}
+use Rattle.tk_affine.specs.Steps.{with_step, with_steps, then_step, then_steps, unmoved, matrix_of}
 
 -- the same behind one step, by what holds of the others
 steps_behind_a_matrix : (made : Result Matrix AffFault) (steps more : List Step)

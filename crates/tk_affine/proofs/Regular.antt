@@ -4,7 +4,6 @@ use Rattle.std.proofs.Common.{of_z}
 use Rattle.std.specs.Int.{w64, w128}
 use Rattle.std.proofs.lemmas.Bool.Decides.{nat_tests}
 use Rattle.std.proofs.lemmas.Int.{to_z-of_z, ints}
-use Rattle.tk_item.specs.declared.Point.{Point}
 use Rattle.tk_affine.specs.declared.AffFault.{AffFault}
 use Rattle.tk_affine.specs.declared.AffFault.TheVariants.{Singular}
 use Rattle.tk_affine.specs.declared.Matrix.{Matrix}
@@ -18,7 +17,7 @@ some_bits (pos n) ne e = ne e
 some_bits (negsuc n) ne e = absurd (omega arith)
 
 -- where the determinant isn't 0, what is found stands
-pub found_by_inverse : (m : Matrix) (found : Result Point AffFault) (whole : ℤ) → whole ≡ determinant m → of_z w64 whole ≢ 0
+pub found_by_inverse : {A : Type 0} (m : Matrix) (found : Result A AffFault) (whole : ℤ) → whole ≡ determinant m → of_z w64 whole ≢ 0
     → found ≡ by_inverse m found
 found_by_inverse m found whole e ne =
     let some : unsigned_abs (determinant m) ≢ 0 = rw e at (some_bits whole ne) in
@@ -39,7 +38,7 @@ no_bits : (z : ℤ) → unsigned_abs z ≤ 4611686009837453316 → of_z w64 z �
 no_bits (pos n) le e = e
 no_bits (negsuc n) le e = absurd (omega (arith, ints))
 
-pub no_inverse : (m : Matrix) (found : Result Point AffFault) (whole : ℤ) → whole ≡ determinant m → unsigned_abs whole ≤ 4611686009837453316
+pub no_inverse : {A : Type 0} (m : Matrix) (found : Result A AffFault) (whole : ℤ) → whole ≡ determinant m → unsigned_abs whole ≤ 4611686009837453316
     → of_z w64 whole ≡ 0 → Err Singular ≡ by_inverse m found
 no_inverse m found whole e le none =
     let zero : unsigned_abs (determinant m) ≡ 0 = rw e at (no_bits whole le none) in

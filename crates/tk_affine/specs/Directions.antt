@@ -1,6 +1,6 @@
 -- The turn into a direction.
 use Rattle.std.specs.Prelude.{ℕ, ◌+◌, ◌*◌, ◌==◌, if◌then◌else◌, ℤ, pos, ◌*ℤ◌, int_div, unsigned_abs}
-use Rattle.tk_num.specs.Number.{floor_root}
+use Rattle.tk_num.specs.Number.{one, floor_root}
 use Rattle.tk_affine.specs.declared.Matrix.{Matrix}
 use Rattle.tk_affine.specs.Steps.{unmoved, turned}
 
@@ -10,7 +10,7 @@ whole_length x y = floor_root (unsigned_abs x * unsigned_abs x + unsigned_abs y 
 
 -- the part z of a length n, in 65536ths, cut toward zero
 abbrev pub component_of : ℤ → ℕ → ℤ
-component_of z n = int_div (pos 65536 *ℤ z) (pos n)
+component_of z n = int_div (pos one *ℤ z) (pos n)
 
 -- the turn of a vector of the length n
 abbrev pub turn_by : ℕ → ℤ → ℤ → Matrix

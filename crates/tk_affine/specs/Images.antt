@@ -1,6 +1,6 @@
 -- What a matrix makes of points. Its linear part counts 65536ths, its shift and the points scaled points.
 use Rattle.std.specs.Prelude.{◌&&◌, if◌then◌else◌, Result, Ok, Err, ℤ, pos, ◌+ℤ◌, ◌*ℤ◌, int_div}
-use Rattle.tk_num.specs.Number.{IsScaled, is_scaled}
+use Rattle.tk_num.specs.Number.{one, IsScaled, is_scaled}
 use Rattle.tk_item.specs.declared.Point.{Point}
 use Rattle.tk_affine.specs.declared.AffFault.{AffFault}
 use Rattle.tk_affine.specs.declared.AffFault.TheVariants.{TooLarge}
@@ -17,11 +17,11 @@ point_at x y = if is_scaled x && is_scaled y then Ok (record { x = x; y = y }) e
 
 -- how far to the right the vector p goes: a*x + c*y, cut toward zero to a whole scaled point
 abbrev pub across : Matrix → Point → ℤ
-across m p = int_div (m.a *ℤ p.x +ℤ m.c *ℤ p.y) (pos 65536)
+across m p = int_div (m.a *ℤ p.x +ℤ m.c *ℤ p.y) (pos one)
 
 -- how far up the vector p goes: b*x + d*y, cut toward zero to a whole scaled point
 abbrev pub upward : Matrix → Point → ℤ
-upward m p = int_div (m.b *ℤ p.x +ℤ m.d *ℤ p.y) (pos 65536)
+upward m p = int_div (m.b *ℤ p.x +ℤ m.d *ℤ p.y) (pos one)
 
 -- the image of a vector, which no shift moves
 unfoldable pub vector_image : Matrix → Point → Result Point AffFault

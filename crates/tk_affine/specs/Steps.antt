@@ -1,22 +1,17 @@
 -- The matrix of a list of steps. The step that is written last is the first that a point goes through.
-use Rattle.std.specs.Prelude.{List, [], ◌∷◌, Result, Ok, Err, ℤ, pos, neg_ℤ}
-use Rattle.tk_num.specs.Number.{IsScaled}
+use Rattle.std.specs.Prelude.{List, [], ◌∷◌, Result, Ok, ℤ, pos, neg_ℤ}
+use Rattle.tk_num.specs.Number.{one, IsScaled}
 use Rattle.tk_num.specs.Angle.{sine, cosine}
+use Rattle.tk_token.specs.Answers.{◌>>=◌}
 use Rattle.tk_affine.specs.declared.AffFault.{AffFault}
 use Rattle.tk_affine.specs.declared.Matrix.{Matrix}
 use Rattle.tk_affine.specs.declared.Step.{Step}
 use Rattle.tk_affine.specs.declared.Step.TheVariants.{Shift, Rotate, Scale, Slant, Cm}
 use Rattle.tk_affine.specs.Images.{vector_image, image}
 
-infixl 10 ◌>>=◌
--- f of the value; a fault is passed on at once
-abbrev pub ◌>>=◌ : {A B : Type 0} → Result A AffFault → (A → Result B AffFault) → Result B AffFault
-(Ok x) >>= f = f x
-(Err e) >>= f = Err e
-
 -- a shift alone
 abbrev pub shifted : ℤ → ℤ → Matrix
-shifted x y = record { a = pos 65536; b = pos 0; c = pos 0; d = pos 65536; tx = x; ty = y }
+shifted x y = record { a = pos one; b = pos 0; c = pos 0; d = pos one; tx = x; ty = y }
 
 -- each point is its own image
 abbrev pub unmoved : Matrix
@@ -35,7 +30,7 @@ abbrev pub step_matrix : Step → Matrix
 step_matrix (Shift x y) = shifted x y
 step_matrix (Rotate angle) = turned (cosine angle) (sine angle)
 step_matrix (Scale x y) = linear x (pos 0) (pos 0) y
-step_matrix (Slant x y) = linear (pos 65536) y x (pos 65536)
+step_matrix (Slant x y) = linear (pos one) y x (pos one)
 step_matrix (Cm m) = m
 
 -- n first, then m: the images under m of where n takes (1,0), (0,1) and the origin

@@ -6,7 +6,7 @@ ghost use Rattle.tk_affine.specs.Directions.{whole_length, component_of, turn_al
 
 use crate::Matrix;
 use crate::steps::{identity, turned};
-use tk_num::Scaled;
+use tk_num::{ONE, Scaled};
 
 /// The length of a vector, cut downward.
 fn whole_length(x: i64, y: i64) -> u64
@@ -28,7 +28,7 @@ fn component_of(part: i64, length: u64) -> Scaled
     requires most { length ≤ 2 ^ 41 }
     ensures { result ≡ component_of part length }
 {
-    Scaled::within(65536 * part / length as i64)
+    Scaled::within(ONE * part / length as i64)
 }
 
 /// The turn that takes (1,0) into the direction of (dx,dy): with n the root of dx*dx + dy*dy, cut downward, it is

@@ -6,13 +6,14 @@ ghost use Rattle.tk_affine.specs.Images.{across, upward, image, vector_image};
 use crate::numbers::{point, sum_of_products};
 use crate::{AffFault, Matrix};
 use tk_item::Point;
+use tk_num::ONE;
 
 /// How far to the right a vector goes.
 fn across(m: &Matrix, p: &Point) -> i64
     ensures value { result ≡ across m.now p.now }
     ensures within { unsigned_abs result ≤ 35184372088832 }
 {
-    sum_of_products(m.a, p.x, m.c, p.y) / 65536
+    sum_of_products(m.a, p.x, m.c, p.y) / ONE
 }
 
 /// How far up a vector goes.
@@ -20,7 +21,7 @@ fn upward(m: &Matrix, p: &Point) -> i64
     ensures value { result ≡ upward m.now p.now }
     ensures within { unsigned_abs result ≤ 35184372088832 }
 {
-    sum_of_products(m.b, p.x, m.d, p.y) / 65536
+    sum_of_products(m.b, p.x, m.d, p.y) / ONE
 }
 
 /// The image of a point: ((a*x + c*y)/65536 + tx, (b*x + d*y)/65536 + ty), each quotient cut toward zero.

@@ -1,12 +1,13 @@
-//! Inverse images, and corners along the axes of a matrix.
+//! Inverse images, and corners and directions along the axes of a matrix.
 
-ghost use Rattle.std.specs.Prelude.{◌≡◌, ◌≤◌, ◌^◌, ◌+ℤ◌, unsigned_abs};
-ghost use Rattle.tk_affine.specs.Inverses.{determinant, along_first, along_second, inverse_image, corner_of};
+ghost use Rattle.std.specs.Prelude.{◌≡◌, ◌≤◌, ◌^◌, ◌+ℤ◌, unsigned_abs, IfOk};
+ghost use Rattle.tk_affine.specs.Inverses.{determinant, along_first, along_second, inverse_image, corner_of, ray_to};
+ghost use Rattle.tk_affine.specs.Inverses.{IsRay};
 
-use crate::numbers::{difference, difference_of_products, point, share};
+use crate::numbers::{difference, difference_of_products, point, share, signed_by};
 use crate::{AffFault, Matrix};
 use tk_item::Point;
-use tk_num::Scaled;
+use tk_num::{ONE, Scaled};
 
 /// a*d - b*c, which is 0 where all images lie on one line.
 fn determinant(m: &Matrix) -> i64
@@ -51,8 +52,8 @@ pub fn inverse_apply(m: Matrix, p: Point) -> Result<Point, AffFault>
         return Err(AffFault::Singular);
     }
     let (dx, dy) = (difference(p.x, m.tx), difference(p.y, m.ty));
-    let x = share(65536, along_first(&m, dx, dy), whole);
-    let y = share(65536, along_second(&m, dx, dy), whole);
+    let x = share(ONE, along_first(&m, dx, dy), whole);
+    let y = share(ONE, along_second(&m, dx, dy), whole);
     point(x, y)
 }
 
@@ -81,4 +82,25 @@ pub fn corner(m: Matrix, p: Point, q: Point) -> Result<Point, AffFault>
     let x = moved(p.x, share(m.a.sp(), part, whole));
     let y = moved(p.y, share(m.b.sp(), part, whole));
     point(x, y)
+}
+
+/// The direction along the axes of the matrix in which `p` lies, seen from the image of (0,0), which is the shift: with
+/// (dx,dy) = p minus the shift it is (d*dx - c*dy, a*dy - b*dx), both negated where D = a*d - b*c is negative. Over |D|
+/// these are how often each axis goes into (dx,dy). Singular where D is 0.
+///
+/// Under a turn by 90 degrees, that is (0, 65536, -65536, 0, 0, 0), the point (0,1) lies in the direction (65536,0).
+#[tactic(auto, unfolding(crate::specs::Inverses::ray_to))]
+pub fn ray(m: Matrix, p: Point) -> Result<(i64, i64), AffFault>
+    ensures gives { result ≡ ray_to m p }
+    ensures within { IfOk result IsRay }
+{
+    let whole = determinant(&m);
+    if whole == 0 {
+        return Err(AffFault::Singular);
+    }
+    let dx = difference(p.x, m.tx);
+    let dy = difference(p.y, m.ty);
+    let u = signed_by(whole, along_first(&m, dx, dy));
+    let v = signed_by(whole, along_second(&m, dx, dy));
+    Ok((u, v))
 }

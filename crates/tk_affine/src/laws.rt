@@ -27,7 +27,8 @@ pub fn unmoved_is_neutral()
 pub fn unmoved_points_stay()
     ensures image { (p : APoint) → images.IsPoint p → images.image steps.unmoved p ≡ Ok p }
     ensures vector { (p : APoint) → images.IsPoint p → images.vector_image steps.unmoved p ≡ Ok p }
-    ensures inverse { (p : APoint) → images.IsPoint p → inverses.inverse_image steps.unmoved p ≡ Ok p }
-    ensures corner { (p q : APoint) → images.IsPoint p → images.IsPoint q → inverses.corner_of steps.unmoved p q
-        ≡ Ok (record { x = q.x; y = p.y }) }
+    ensures inverse { (p : APoint) → images.IsPoint p
+        → inverses.inverse_image steps.unmoved p ≡ Ok p }
+    ensures corner { (p q : APoint) → images.IsPoint p → images.IsPoint q
+        → inverses.corner_of steps.unmoved p q ≡ Ok (record { x = q.x; y = p.y }) }
 {}

@@ -1,8 +1,9 @@
-//! Matrices of the plane: the steps that make them, images and inverse images of points, corners along
-//! their axes, and turns into a direction. Nothing here takes memory.
+//! Matrices of the plane: the steps that make them, images and inverse images of points, corners and
+//! directions along their axes, and turns into a direction. Nothing here takes memory.
 #![tactic(auto)]
 
 mod directions;
+mod faults;
 mod images;
 mod inverses;
 mod laws;
@@ -10,10 +11,11 @@ mod numbers;
 mod steps;
 
 pub use directions::along;
+pub use faults::answer_at;
 pub use images::{apply, apply_vector};
-pub use inverses::{corner, inverse_apply};
+pub use inverses::{corner, inverse_apply, ray};
 pub use laws::{steps_go_on, unmoved_is_neutral, unmoved_points_stay};
-pub use numbers::{difference, point};
+pub use numbers::{difference, point, share};
 pub use steps::{concat, identity};
 use tk_num::Scaled;
 

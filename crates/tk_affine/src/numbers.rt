@@ -3,6 +3,7 @@
 ghost use Rattle.std.specs.Prelude.{◌≡◌, ◌≤◌, ◌^◌, if◌then◌else◌, ◌+ℤ◌, ◌-ℤ◌, ◌*ℤ◌, int_div, unsigned_abs};
 ghost use Rattle.tk_num.specs.Number.{IsScaled, is_scaled};
 ghost use Rattle.tk_affine.specs.Images.{point_at};
+ghost use Rattle.tk_affine.specs.Inverses.{signed_by};
 
 use crate::AffFault;
 use tk_item::Point;
@@ -51,8 +52,8 @@ pub(crate) fn difference_of_products(a: Scaled, x: i64, b: Scaled, y: i64) -> i6
     a.sp() * x - b.sp() * y
 }
 
-/// r*n/d, cut toward zero.
-pub(crate) fn share(r: i64, n: i64, d: i64) -> i128
+/// r*n/d, cut toward zero: 2*7/4 is 3, and 2*-7/4 is -3.
+pub fn share(r: i64, n: i64, d: i64) -> i128
     requires r { unsigned_abs r ≤ 1073741823 }
     requires n { unsigned_abs n ≤ 4611686009837453316 }
     requires d { 1 ≤ unsigned_abs d }
@@ -60,4 +61,13 @@ pub(crate) fn share(r: i64, n: i64, d: i64) -> i128
     ensures within { unsigned_abs result ≤ 2 ^ 92 }
 {
     i128::from(r) * i128::from(n) / i128::from(d)
+}
+
+/// x, negated where u is negative.
+pub(crate) fn signed_by(u: i64, x: i64) -> i64
+    requires { unsigned_abs x ≤ 4611686009837453316 }
+    ensures value { result ≡ signed_by u x }
+    ensures within { unsigned_abs result ≤ 4611686009837453316 }
+{
+    if u < 0 { -x } else { x }
 }

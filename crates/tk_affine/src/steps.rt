@@ -1,18 +1,19 @@
 //! Matrices that are made of steps.
 
 ghost use Rattle.std.specs.Prelude.{◌≡◌, pos, neg_ℤ};
+ghost use Rattle.tk_num.specs.Number.{one};
 ghost use Rattle.tk_affine.specs.Steps.{unmoved, shifted, linear, turned, step_matrix, composed, with_step};
 
 use crate::images::{apply, apply_vector};
 use crate::{AffFault, Matrix, Step};
 use tk_item::Point;
-use tk_num::{Scaled, cos, sin};
+use tk_num::{ONE, Scaled, cos, sin};
 
 /// One whole, in 65536ths.
 fn one() -> Scaled
-    ensures { result ≡ pos 65536 }
+    ensures { result ≡ pos one }
 {
-    Scaled::within(65536)
+    Scaled::within(ONE)
 }
 
 /// A shift alone.

@@ -5,7 +5,7 @@ use Rattle.tk_token.specs.declared.Fault.{Fault}
 use Rattle.tk_token.specs.Answers.{Answer, ◌>>=◌}
 use Rattle.tk_affine.specs.declared.Matrix.{Matrix}
 use Rattle.tk_coord.specs.declared.corners.CornerStart.{CornerStart}
-use Rattle.tk_look.specs.Graphics.{answer_at}
+use Rattle.tk_affine.specs.Faults.{answer_at}
 use Rattle.tk_coord.specs.Coordinates.{corner_between}
 use Rattle.tk_coord.specs.Starts.{corners_from}
 

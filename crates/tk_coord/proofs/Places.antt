@@ -27,7 +27,7 @@ use Rattle.tk_expr.proofs.Evaluations.{is_evaluated}
 use Rattle.tk_expr.proofs.Places.{evaluated_at, paired_by_at, vector_at, own_place, all_places}
 use Rattle.tk_look.specs.declared.Look.{Look}
 use Rattle.tk_look.proofs.Places.{Fine, Within}
-use Rattle.tk_look.specs.Graphics.{answer_at}
+use Rattle.tk_affine.specs.Faults.{answer_at}
 use Rattle.tk_coord.specs.Coordinates.{translated, point_in_numbers, sign_in_front, corner_between}
 use Rattle.tk_coord.specs.Coordinates.{point_by, lone_point, by_sign, point_step, absolute_point, relative_point, point_of}
 

@@ -19,7 +19,7 @@ use Rattle.tk_expr.specs.declared.ValuePair.{ValuePair}
 use Rattle.tk_expr.specs.Evaluates.{Evaluation}
 use Rattle.tk_expr.specs.Pairs.{paired, vector_of}
 use Rattle.tk_look.specs.declared.Look.{Look}
-use Rattle.tk_look.specs.Graphics.{answer_at}
+use Rattle.tk_affine.specs.Faults.{answer_at}
 use Rattle.tk_coord.specs.declared.corners.CornerSign.{CornerSign}
 use Rattle.tk_coord.specs.declared.corners.CornerSign.TheVariants.{HorizontalFirst, VerticalFirst}
 

@@ -4,7 +4,7 @@ use Rattle.tk_item.specs.declared.Point.{Point}
 use Rattle.tk_token.specs.Answers.{Answer, ◌>>=◌}
 use Rattle.tk_affine.specs.declared.Matrix.{Matrix}
 use Rattle.tk_coord.specs.declared.corners.CornerStart.{CornerStart}
-use Rattle.tk_look.specs.Graphics.{answer_at}
+use Rattle.tk_affine.specs.Faults.{answer_at}
 use Rattle.tk_coord.specs.Coordinates.{corner_between}
 
 -- the corners from all these points, from the last one, which leads to the point that is found behind them

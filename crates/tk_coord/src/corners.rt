@@ -3,11 +3,10 @@
 ghost use Rattle.std.specs.Prelude.{◌≡◌, Ok};
 ghost use Rattle.tk_coord.specs.Coordinates as spec;
 ghost use Rattle.tk_coord.specs.Starts.{corners_from};
-ghost use Rattle.tk_look.specs.Graphics.{answer_at};
+ghost use Rattle.tk_affine.specs.Faults.{answer_at};
 
-use tk_affine::{Matrix, corner};
+use tk_affine::{Matrix, answer_at, corner};
 use tk_item::Point;
-use tk_look::answer_at;
 use tk_token::{Fault, Tok, begins_pair};
 
 /// How a corner leads from one point to another.

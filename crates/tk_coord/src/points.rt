@@ -1,23 +1,23 @@
 //! The points of texts.
 
-ghost use Rattle.std.specs.Prelude.{◌≡◌, drop, option_map};
+ghost use Rattle.std.specs.Prelude.{◌≡◌, option_map};
 ghost use Rattle.tk_token.specs.Refusals.{Gives};
 ghost use Rattle.tk_token.specs.Spaces.{trimmed};
 ghost use Rattle.tk_expr.specs.Evaluated.{evaluated};
 ghost use Rattle.tk_expr.specs.Evaluates.{Evaluation, IsEvaluation};
 ghost use Rattle.tk_expr.specs.Pairs.{paired};
-ghost use Rattle.tk_look.specs.Graphics.{answer_at};
+ghost use Rattle.tk_affine.specs.Faults.{answer_at};
 ghost use Rattle.tk_coord.specs.Coordinates as spec;
 
 use crate::Target;
 use crate::corners::{CornerStart, corners_from, sign_in_front};
 use std::alloc::Global;
-use tk_affine::{Matrix, apply, apply_vector};
+use tk_affine::{Matrix, answer_at, apply, apply_vector};
 use tk_expr::{FontUnits, ValuePair, pair, vector};
 use tk_item::Point;
-use tk_look::{Look, answer_at};
+use tk_look::Look;
 use tk_num::add;
-use tk_token::{Code, Fault, Refusal, Sought, Tok, first_outside, trimmed};
+use tk_token::{Code, Fault, Refusal, Sought, Tok, first_outside, trimmed, without_first};
 
 /// What the numbers of a coordinate count, and where they lead.
 #[derive(Drop)]
@@ -70,7 +70,7 @@ impl CoordinateSystem<'_> {
             let point = self.lone_point(front, at)?;
             let sign = sign_in_front(behind);
             starts.push(CornerStart { point, sign })?;
-            rest = behind_sign(behind);
+            rest = without_first(behind, 2);
         }
         let end = self.lone_point(rest, at)?;
         Ok(corners_from(starts, end, &self.matrix, at)?)
@@ -126,16 +126,6 @@ fn code_without_numbers(text: &[Tok]) -> Code
         Code::Coordinate
     } else {
         Code::Unbuilt
-    }
-}
-
-/// The tokens behind the sign in front.
-fn behind_sign(list: &[Tok]) -> &[Tok]
-    ensures { result.now ≡ drop 2 list.now }
-{
-    match list {
-        [_, _, rest @ ..] => rest,
-        _ => &[],
     }
 }
 

@@ -10,8 +10,8 @@ use Rattle.tk_store.specs.Levels.{Macros}
 use Rattle.tk_expand.specs.Unread.{Unread, unread}
 use Rattle.tk_expand.specs.Expand.{Stream, stream, full}
 use Rattle.tk_expand.specs.Reading.{Read, read, after_token, token_value}
-use Rattle.tk_define.specs.declared.Command.{Command}
-use Rattle.tk_define.specs.declared.Command.TheVariants.{Def, Edef, NewCommand}
+use Rattle.tk_define.specs.declared.DefinitionWord.{DefinitionWord}
+use Rattle.tk_define.specs.declared.DefinitionWord.TheVariants.{Def, Edef, NewCommand}
 use Rattle.tk_define.specs.declared.Definition.{Definition}
 use Rattle.tk_define.specs.Heads.{parameters, name_of, count_of}
 
@@ -66,7 +66,7 @@ edef budget macros s = do
   })
 
 -- the definition behind its command
-abbrev pub defined : Command → ℕ → Macros → Stream → Answer Defined
+abbrev pub defined : DefinitionWord → ℕ → Macros → Stream → Answer Defined
 defined Def budget macros s = for_nothing s.units (def s.list)
 defined NewCommand budget macros s = for_nothing s.units (new_command s.list)
 defined Edef budget macros s = edef budget macros s

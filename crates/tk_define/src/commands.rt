@@ -8,7 +8,7 @@ ghost use Rattle.tk_define.specs.Definitions.{stands_for, def, new_command, edef
 
 use crate::head::{count, name, parameters};
 use crate::parts::{body, word};
-use crate::{Command, Definition};
+use crate::{Definition, DefinitionWord};
 use std::alloc::Global;
 use tk_expand::{Input, Units, expand_all};
 use tk_store::{Body, Macro, Store};
@@ -20,7 +20,7 @@ use tk_token::{Code, Refusal};
 /// the word of a call.
 pub fn read_definition(
     alloc: Global,
-    command: Command,
+    command: DefinitionWord,
     input: &mut Input,
     store: &Store,
     units: &mut Units,
@@ -38,9 +38,9 @@ pub fn read_definition(
         < (units.old.budget - units.old.used) + length input.old.rest) }
 {
     match command {
-        Command::Def => def(alloc, input),
-        Command::Edef => edef(alloc, input, store, units),
-        Command::NewCommand => new_command(alloc, input),
+        DefinitionWord::Def => def(alloc, input),
+        DefinitionWord::Edef => edef(alloc, input, store, units),
+        DefinitionWord::NewCommand => new_command(alloc, input),
     }
 }
 

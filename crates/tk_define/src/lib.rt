@@ -10,7 +10,7 @@ use tk_store::Macro;
 
 /// The commands that define macros.
 #[derive(Clone, Copy, PartialEq, Eq)]
-pub enum Command {
+pub enum DefinitionWord {
     /// `\def`
     Def,
     /// `\edef`

@@ -10,8 +10,9 @@ use Rattle.tk_token.specs.Cutting.{is_letter}
 use Rattle.tk_token.specs.declared.Kind.{Kind}
 use Rattle.tk_token.specs.declared.Kind.TheVariants.{Char, Word, Symbol, Open, Close, Param, Arg, Space}
 use Rattle.tk_token.specs.declared.Tok.{Tok}
+use Rattle.tk_expr.specs.declared.pieces.Mark.{Mark}
 use Rattle.tk_expr.specs.declared.pieces.Mark.TheVariants.{Word as Word_mark}
-use Rattle.tk_expr.specs.Pieces.{Letters, with_letter, lumps_of, piece_of, pieces_of, word_mark, Row, rows, mark_in}
+use Rattle.tk_expr.specs.Pieces.{Letters, with_letter, lumps_of, piece_of, pieces_of, word_mark, rows, mark_in}
 use Rattle.tk_expr.specs.Letters.{is_letter_kind, is_letter_tok, letter_of, letter_of_kind}
 
 -- a letter before tokens joins the letters in front of them
@@ -77,16 +78,16 @@ other_length : (xs ys : List ℕ) (b : Bool) → bytes_eq xs ys ≡ b → length
 other_length xs ys true e more = absurd (let same = (bytes_eq-Decides xs ys).0 e in omega (arith, ap length same))
 other_length xs ys false e more = refl
 
-short_rows : List Row → Bool
+short_rows : List (List ℕ × Mark) → Bool
 short_rows [] = true
-short_rows (row ∷ rows) = leb (length row.text) 6 && short_rows rows
+short_rows (row ∷ rows) = leb (length row.0) 6 && short_rows rows
 
-no_row : (rows : List Row) (text : List ℕ) → short_rows rows ≡ true → 6 < length text → mark_in rows text ≡ Word_mark
+no_row : (rows : List (List ℕ × Mark)) (text : List ℕ) → short_rows rows ≡ true → 6 < length text → mark_in rows text ≡ Word_mark
 unfolding short_rows
 no_row [] text h long = refl
 no_row (row ∷ rows) text h long =
-    let short : length row.text ≤ 6 = leb-true _ _ (front_and _ _ h) in
-    let other : bytes_eq text row.text ≡ false = other_length text row.text (bytes_eq text row.text) refl (omega arith) in
+    let short : length row.0 ≤ 6 = leb-true _ _ (front_and _ _ h) in
+    let other : bytes_eq text row.0 ≡ false = other_length text row.0 (bytes_eq text row.0) refl (omega arith) in
     rw other (no_row rows text (back_and _ _ h) long)
 
 -- a long word is no name

@@ -1,16 +1,18 @@
 -- The digits of tokens' pieces are below ten.
 use Rattle.std.proofs.Common.{◌≡◌, ℕ, ◌-◌, ◌==◌, Bool, true, false, cond, List, [], ◌∷◌, map, refl, arith, lt-ltb}
+use Rattle.std.specs.Prelude.{Option, Some, unwrap_or}
 use Rattle.std.specs.Char.{is_ascii_digit}
 use Rattle.std.specs.List.{AllByRecursion}
 use Rattle.std.specs.Str.{bytes_eq}
+use Rattle.tk_characters.specs.Words.{word_meaning}
 use Rattle.tk_num.proofs.Digits.{digit_bounds}
 use Rattle.tk_token.specs.declared.Kind.{Kind}
 use Rattle.tk_token.specs.declared.Kind.TheVariants.{Char, Open, Close, Space}
 use Rattle.tk_token.specs.declared.Tok.{Tok}
 use Rattle.tk_expr.specs.declared.pieces.Mark.{Mark}
-use Rattle.tk_expr.specs.declared.pieces.Mark.TheVariants.{Digit}
+use Rattle.tk_expr.specs.declared.pieces.Mark.TheVariants.{Digit, Word}
 use Rattle.tk_expr.specs.declared.pieces.Piece.{Piece}
-use Rattle.tk_expr.specs.Pieces.{Row, rows, digit_zero, mark_in, word_mark, mark_at, signs, char_mark, mark_of, Lump, Letters, Alone, lumps_of}
+use Rattle.tk_expr.specs.Pieces.{rows, digit_zero, mark_in, word_mark, mark_at, signs, char_mark, mark_of, Lump, Letters, Alone, lumps_of}
 use Rattle.tk_expr.specs.Pieces.{piece_of, pieces_of}
 use Rattle.tk_expr.proofs.Outcomes.{Proper}
 
@@ -21,9 +23,13 @@ proper_if : (b : Bool) (m n : Mark) → Proper m → Proper n → Proper (cond b
 proper_if true m n h k = h
 proper_if false m n h k = k
 
-proper_row : (table : List Row) (text : List ℕ) → AllByRecursion (λ (r : Row). Proper r.mark) table → Proper (mark_in table text)
+proper_or_word : (b : Bool) (m : Mark) (o : Option Mark) → Proper m → Proper (unwrap_or o Word) → Proper (unwrap_or (cond b (Some m) o) Word)
+proper_or_word true m o h k = h
+proper_or_word false m o h k = k
+
+proper_row : (table : List (List ℕ × Mark)) (text : List ℕ) → AllByRecursion (λ (r : List ℕ × Mark). Proper r.1) table → Proper (mark_in table text)
 proper_row [] text h = tt
-proper_row (r ∷ table) text h = proper_if (bytes_eq text r.text) r.mark (mark_in table text) h.0 (proper_row table text h.1)
+proper_row (r ∷ table) text h = proper_or_word (bytes_eq text r.0) r.1 (word_meaning table text) h.0 (proper_row table text h.1)
 
 proper_word : (text : List ℕ) → Proper (word_mark text)
 unfolding word_mark

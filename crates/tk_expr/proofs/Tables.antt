@@ -4,21 +4,21 @@ use Rattle.std.specs.Str.{bytes_eq}
 use Rattle.std.proofs.lemmas.List.{drop_all}
 use Rattle.tk_expr.specs.declared.pieces.Mark.{Mark}
 use Rattle.tk_expr.specs.declared.pieces.Mark.TheVariants.{Word}
-use Rattle.tk_expr.specs.Pieces.{Row, mark_in}
+use Rattle.tk_expr.specs.Pieces.{mark_in}
 
 -- by what a row of the code says
-module _ {R : Type 0} (entry : R → Row) where
+module _ {R : Type 0} (entry : R → List ℕ × Mark) where
   -- what a text is by a table
   abbrev pub marked : List ℕ → List R → Mark
   marked text rows = mark_in (map entry rows) text
 
   -- the row in front has the text
-  pub marked_in_front : (text : List ℕ) (rows : List R) (i : ℕ) (row : R) → i < length rows → bytes_eq text (entry (get_or rows i row)).text ≡ true
-      → marked text (drop i rows) ≡ (entry (get_or rows i row)).mark
+  pub marked_in_front : (text : List ℕ) (rows : List R) (i : ℕ) (row : R) → i < length rows → bytes_eq text (entry (get_or rows i row)).0 ≡ true
+      → marked text (drop i rows) ≡ (entry (get_or rows i row)).1
   marked_in_front text rows i row lt e = rw (drop-cons rows i row) (rw e refl)
 
   -- the row in front doesn't
-  pub marked_behind : (text : List ℕ) (rows : List R) (i : ℕ) (row : R) → i < length rows → bytes_eq text (entry (get_or rows i row)).text ≡ false
+  pub marked_behind : (text : List ℕ) (rows : List R) (i : ℕ) (row : R) → i < length rows → bytes_eq text (entry (get_or rows i row)).0 ≡ false
       → marked text (drop i rows) ≡ marked text (drop (i + 1) rows)
   marked_behind text rows i row lt e = rw (add-one, drop-cons rows i row) (rw e refl)
 

@@ -1,13 +1,13 @@
 -- Tokens as the pieces of an expression: a run of letters is one piece, every other token is one.
-use Rattle.std.specs.Prelude.{ℕ, ◌-◌, ◌==◌, if◌then◌else◌, List, [], ◌∷◌, ◌++◌, map, codes}
+use Rattle.std.specs.Prelude.{ℕ, ◌-◌, ◌==◌, if◌then◌else◌, List, [], ◌∷◌, ◌++◌, map, codes, unwrap_or}
 use Rattle.std.specs.Char.{is_ascii_digit}
-use Rattle.std.specs.Str.{bytes_eq}
 use Rattle.tk_num.specs.declared.unit.Unit.TheVariants as units
 use Rattle.tk_token.specs.Cutting.{is_letter}
 use Rattle.tk_token.specs.declared.Kind.{Kind}
 use Rattle.tk_token.specs.declared.Kind.TheVariants.{Char, Open, Close, Space}
 use Rattle.tk_token.specs.declared.Tok.{Tok}
 use Rattle.tk_characters.specs.Characters as characters
+use Rattle.tk_characters.specs.Words.{word_meaning}
 use Rattle.tk_expr.specs.declared.pieces.Mark.{Mark}
 use Rattle.tk_expr.specs.declared.pieces.Mark.TheVariants.{Digit, Point, Measure, Radian, Pi, Single, Double, Several}
 use Rattle.tk_expr.specs.declared.pieces.Mark.TheVariants.{Word, Plus, Minus, Star, Slash, Caret, Bar, Ampersand}
@@ -18,55 +18,49 @@ use Rattle.tk_expr.specs.declared.pieces.Two.TheVariants.{Mod, Pow, Veclen}
 use Rattle.tk_expr.specs.declared.pieces.Most.TheVariants.{Min, Max}
 use Rattle.tk_expr.specs.declared.pieces.Piece.{Piece}
 
--- a text and what it is
-pub record Row : Type 0 where
-  pub text : List ℕ
-  pub mark : Mark
-
 -- the units, `r` and `pi`
-abbrev pub measures : List Row
+abbrev pub measures : List (List ℕ × Mark)
 measures =
-    record { text = codes "pt"; mark = Measure units.Pt } ∷
-    record { text = codes "pc"; mark = Measure units.Pc } ∷
-    record { text = codes "in"; mark = Measure units.In } ∷
-    record { text = codes "bp"; mark = Measure units.Bp } ∷
-    record { text = codes "cm"; mark = Measure units.Cm } ∷
-    record { text = codes "mm"; mark = Measure units.Mm } ∷
-    record { text = codes "dd"; mark = Measure units.Dd } ∷
-    record { text = codes "cc"; mark = Measure units.Cc } ∷
-    record { text = codes "sp"; mark = Measure units.Sp } ∷
-    record { text = codes "em"; mark = Measure units.Em } ∷
-    record { text = codes "ex"; mark = Measure units.Ex } ∷
-    record { text = codes "r"; mark = Radian } ∷
-    record { text = codes "pi"; mark = Pi } ∷ []
+    (codes "pt", Measure units.Pt) ∷
+    (codes "pc", Measure units.Pc) ∷
+    (codes "in", Measure units.In) ∷
+    (codes "bp", Measure units.Bp) ∷
+    (codes "cm", Measure units.Cm) ∷
+    (codes "mm", Measure units.Mm) ∷
+    (codes "dd", Measure units.Dd) ∷
+    (codes "cc", Measure units.Cc) ∷
+    (codes "sp", Measure units.Sp) ∷
+    (codes "em", Measure units.Em) ∷
+    (codes "ex", Measure units.Ex) ∷
+    (codes "r", Radian) ∷
+    (codes "pi", Pi) ∷ []
 
 -- the names of functions
-abbrev pub functions : List Row
+abbrev pub functions : List (List ℕ × Mark)
 functions =
-    record { text = codes "sin"; mark = Single Sin } ∷
-    record { text = codes "cos"; mark = Single Cos } ∷
-    record { text = codes "tan"; mark = Single Tan } ∷
-    record { text = codes "sqrt"; mark = Single Sqrt } ∷
-    record { text = codes "abs"; mark = Single Abs } ∷
-    record { text = codes "sign"; mark = Single Sign } ∷
-    record { text = codes "floor"; mark = Single Floor } ∷
-    record { text = codes "ceil"; mark = Single Ceil } ∷
-    record { text = codes "round"; mark = Single Round } ∷
-    record { text = codes "int"; mark = Single Int } ∷
-    record { text = codes "mod"; mark = Double Mod } ∷
-    record { text = codes "pow"; mark = Double Pow } ∷
-    record { text = codes "veclen"; mark = Double Veclen } ∷
-    record { text = codes "min"; mark = Several Min } ∷
-    record { text = codes "max"; mark = Several Max } ∷ []
+    (codes "sin", Single Sin) ∷
+    (codes "cos", Single Cos) ∷
+    (codes "tan", Single Tan) ∷
+    (codes "sqrt", Single Sqrt) ∷
+    (codes "abs", Single Abs) ∷
+    (codes "sign", Single Sign) ∷
+    (codes "floor", Single Floor) ∷
+    (codes "ceil", Single Ceil) ∷
+    (codes "round", Single Round) ∷
+    (codes "int", Single Int) ∷
+    (codes "mod", Double Mod) ∷
+    (codes "pow", Double Pow) ∷
+    (codes "veclen", Double Veclen) ∷
+    (codes "min", Several Min) ∷
+    (codes "max", Several Max) ∷ []
 
 -- both tables
-abbrev pub rows : List Row
+abbrev pub rows : List (List ℕ × Mark)
 rows = measures ++ functions
 
 -- what a text is by a table, or just a word
-abbrev pub mark_in : List Row → List ℕ → Mark
-mark_in [] text = Word
-mark_in (row ∷ others) text = if bytes_eq text row.text then row.mark else mark_in others text
+abbrev pub mark_in : List (List ℕ × Mark) → List ℕ → Mark
+mark_in table text = unwrap_or (word_meaning table text) Word
 
 -- what a run of letters is
 unfoldable pub word_mark : List ℕ → Mark

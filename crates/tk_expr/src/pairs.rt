@@ -1,6 +1,6 @@
 //! The numbers of a coordinate.
 
-ghost use Rattle.std.specs.Prelude.{◌≡◌, ℤ, drop, option_map};
+ghost use Rattle.std.specs.Prelude.{◌≡◌, ℤ, option_map};
 ghost use Rattle.tk_expr.specs.declared.ValuePair.TheVariants.{Plane, Polar};
 ghost use Rattle.tk_token.specs.Groups as groups;
 ghost use Rattle.tk_token.specs.Groups.{cut, first_outside};
@@ -14,18 +14,7 @@ use crate::values::{Found, placed};
 use crate::{FontUnits, Value, ValuePair};
 use tk_item::Point;
 use tk_num::{Scaled, cos, mul, sin};
-use tk_token::{Code, Fault, Sought, Tok, before_char, first_outside, unbraced};
-
-/// The tokens without the first ones, so many.
-fn without(list: &[Tok], n: usize) -> &[Tok]
-    ensures { result.now ≡ drop n list.now }
-{
-    if n <= list.len() {
-        list.split_at(n).1
-    } else {
-        &[]
-    }
-}
+use tk_token::{Code, Fault, Sought, Tok, before_char, first_outside, unbraced, without_first};
 
 /// The value of a part, which may be a group; `at` is the place of an empty one.
 fn part_value(list: &[Tok], font: &FontUnits, at: u32) -> Result<Value, Fault>
@@ -57,7 +46,7 @@ fn radii(angle: Scaled, back: &[Tok], font: &FontUnits, at: u32) -> Result<Value
     match first_outside(back, Sought::And) {
         Some((front, rest)) => {
             let r = part_value(front, font, at)?;
-            let s = part_value(without(rest, 3), font, at)?;
+            let s = part_value(without_first(rest, 3), font, at)?;
             Ok(ValuePair::Polar(angle, r, s))
         }
         None => {

@@ -170,7 +170,7 @@ static WORDS: [(&str, Mark); 28] = [
 
 /// What a run of letters is by a table, or just a word.
 fn mark_in(table: &[(&str, Mark)], word: &str) -> Mark
-    ensures { result ≡ spec.mark_in (map (λ row. record { text = row.0.now; mark = row.1 }) table.now) word.now }
+    ensures { result ≡ spec.mark_in (map (λ row. (row.0.now, row.1)) table.now) word.now }
 {
     for (text, mark) in table {
         if word == *text {

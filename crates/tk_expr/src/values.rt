@@ -7,7 +7,7 @@ ghost use Rattle.tk_expr.specs.Values as spec;
 use crate::FontUnits;
 use crate::operators::Operator;
 use crate::pieces::{Most, One, Two};
-use tk_num::{NumFault, Scaled, Unit, add, cos, div, mul, root, sin, sub, tan, with_unit};
+use tk_num::{NumFault, ONE, Scaled, Unit, add, cos, div, mul, root, sin, sub, tan, with_unit};
 use tk_token::{Code, Fault};
 
 /// A number, or the first fault that was met on the way to it.
@@ -51,7 +51,7 @@ pub(crate) fn truth(holds: bool) -> Scaled
     ensures { result ≡ spec.truth holds }
 {
     if holds {
-        Scaled::within(65536)
+        Scaled::within(ONE)
     } else {
         Scaled::within(0)
     }
@@ -70,7 +70,7 @@ pub(crate) fn is_true(x: Scaled) -> bool
 fn power(x: Scaled, exponent: u32) -> Result<Scaled, NumFault>
     ensures { result ≡ spec.power x exponent }
 {
-    let mut product = Scaled::within(65536);
+    let mut product = Scaled::within(ONE);
     for _ in 0..exponent {
         product = mul(product, x)?;
     }
@@ -82,9 +82,9 @@ fn whole_power(x: Scaled, y: i64) -> Result<Scaled, NumFault>
     requires { IsScaled y }
     ensures { result ≡ spec.whole_power x y }
 {
-    let exponent = (y.unsigned_abs() / 65536) as u32;
+    let exponent = (y.unsigned_abs() / ONE as u64) as u32;
     if y < 0 {
-        return div(Scaled::within(65536), power(x, exponent)?);
+        return div(Scaled::within(ONE), power(x, exponent)?);
     }
     power(x, exponent)
 }
@@ -93,7 +93,7 @@ fn whole_power(x: Scaled, y: i64) -> Result<Scaled, NumFault>
 fn raised(x: Scaled, y: Scaled) -> Result<Scaled, NumFault>
     ensures { result ≡ spec.raised x y }
 {
-    if y.sp().unsigned_abs() % 65536 != 0 {
+    if y.sp().unsigned_abs() % ONE as u64 != 0 {
         return Err(NumFault::Domain);
     }
     whole_power(x, y.sp())
@@ -133,7 +133,7 @@ fn size_in(font: &FontUnits, unit: Unit, size: u64) -> Result<Scaled, NumFault>
     requires { size / 65536 ≤ 1073741823 }
     ensures { result ≡ scaled (spec.unit_length font.now unit size) }
 {
-    let (whole, parts) = (size / 65536, size % 65536);
+    let (whole, parts) = (size / ONE as u64, size % ONE as u64);
     with_unit(whole as i64, parts as i64, unit, font.em, font.ex)
 }
 
@@ -148,7 +148,7 @@ pub(crate) fn decimal_in(
 {
     match unit {
         None => in_range(total as i64),
-        Some(_) if total / 65536 > 1_073_741_823 => Err(NumFault::TooLarge),
+        Some(_) if total / ONE as u64 > 1_073_741_823 => Err(NumFault::TooLarge),
         Some(unit) => size_in(font, unit, total),
     }
 }
@@ -184,7 +184,7 @@ fn floored(sp: i64) -> i64
     ensures value { result ≡ spec.floored sp }
     ensures small { unsigned_abs result ≤ 1073840127 }
 {
-    sp - sp.rem_euclid(65536)
+    sp - sp.rem_euclid(ONE)
 }
 
 /// The least whole number, in 65536ths, that isn't less.
@@ -212,9 +212,9 @@ fn signum(x: Scaled) -> Scaled
         return Scaled::within(0);
     }
     if x.sp() < 0 {
-        Scaled::within(-65536)
+        Scaled::within(-ONE)
     } else {
-        Scaled::within(65536)
+        Scaled::within(ONE)
     }
 }
 
@@ -232,7 +232,7 @@ pub(crate) fn called_one(function: One, x: Scaled) -> Result<Scaled, NumFault>
         One::Floor => in_range(floored(x.sp())),
         One::Ceil => in_range(ceiled(x)),
         One::Round => in_range(rounded(x)),
-        One::Int => Ok(Scaled::within(x.sp() - x.sp() % 65536)),
+        One::Int => Ok(Scaled::within(x.sp() - x.sp() % ONE)),
     }
 }
 

@@ -5,13 +5,13 @@ use Rattle.std.specs.List.{range_with_len}
 use Rattle.std.specs.Result.{result_unwrap_or}
 use Rattle.tk_num.specs.Number.{product}
 use Rattle.tk_num.specs.Angle.{degrees, sine, cosine, tangent}
+use Rattle.tk_token.specs.Answers.{◌>>=◌}
 use Rattle.tk_item.specs.declared.Point.{Point}
 use Rattle.tk_item.specs.declared.Seg.{Seg}
 use Rattle.tk_item.specs.declared.Seg.TheVariants.{Curve}
 use Rattle.tk_affine.specs.declared.AffFault.{AffFault}
 use Rattle.tk_affine.specs.declared.Matrix.{Matrix}
 use Rattle.tk_affine.specs.Images.{vector_image}
-use Rattle.tk_affine.specs.Steps.{◌>>=◌}
 use Rattle.tk_geom.specs.Pieces.{xy, sum_of, difference_of, checked, try_map}
 
 -- how many pieces the arc from a to b has: one for each 90 degrees that are begun

@@ -1,13 +1,13 @@
 -- Circles and ellipses: four curves, from the right upward and round.
 use Rattle.std.specs.Prelude.{List, [], ◌∷◌, Result, Ok, ℤ, pos, neg_ℤ}
 use Rattle.tk_num.specs.Number.{product}
+use Rattle.tk_token.specs.Answers.{◌>>=◌}
 use Rattle.tk_item.specs.declared.Point.{Point}
 use Rattle.tk_item.specs.declared.Seg.{Seg}
 use Rattle.tk_item.specs.declared.Seg.TheVariants.{Move, Curve, Close}
 use Rattle.tk_affine.specs.declared.AffFault.{AffFault}
 use Rattle.tk_affine.specs.declared.Matrix.{Matrix}
 use Rattle.tk_affine.specs.Images.{vector_image}
-use Rattle.tk_affine.specs.Steps.{◌>>=◌}
 use Rattle.tk_geom.specs.Pieces.{xy, sum_of, checked}
 
 -- how far the control points of a quarter lie from its ends: 36195/65536 of the radius, for 4*(sqrt(2) - 1)/3

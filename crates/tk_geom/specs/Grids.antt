@@ -1,13 +1,12 @@
 -- Grids, whose lines are paid for one by one.
-use Rattle.std.specs.Prelude.{ℕ, ◌&&◌, if◌then◌else◌, List, [], ◌∷◌, ◌++◌, Result, Ok, Err, ℤ, pos, int_lt}
+use Rattle.std.specs.Prelude.{ℕ, ◌&&◌, if◌then◌else◌, List, [], ◌∷◌, ◌++◌, Ok, ℤ, pos, int_lt}
 use Rattle.tk_token.specs.declared.Code.TheVariants.{Domain}
 use Rattle.tk_token.specs.Answers.{Answer, ◌>>=◌, fault}
 use Rattle.tk_expand.specs.Expand.{pay}
 use Rattle.tk_item.specs.declared.Point.{Point}
 use Rattle.tk_item.specs.declared.Seg.{Seg}
-use Rattle.tk_affine.specs.declared.AffFault.{AffFault}
 use Rattle.tk_affine.specs.declared.Matrix.{Matrix}
-use Rattle.tk_look.specs.Graphics.{answer_at}
+use Rattle.tk_affine.specs.Faults.{answer_at}
 use Rattle.tk_geom.specs.GridLines.{GridLine, grid_lines, corners, line_pieces}
 
 -- pieces, and the units that were paid when they were drawn

@@ -1,11 +1,11 @@
 -- What pieces of paths are made of: sums of points and vectors, and pieces that follow others. A vector is two numbers,
 -- as a point is.
 use Rattle.std.specs.Prelude.{◌≡◌, List, [], ◌∷◌, ◌++◌, Result, Ok, Err, ℤ, ◌+ℤ◌, ◌-ℤ◌}
+use Rattle.tk_token.specs.Answers.{◌>>=◌}
 use Rattle.tk_item.specs.declared.Point.{Point}
 use Rattle.tk_item.specs.declared.Seg.{Seg}
 use Rattle.tk_affine.specs.declared.AffFault.{AffFault}
 use Rattle.tk_affine.specs.Images.{point_at}
-use Rattle.tk_affine.specs.Steps.{◌>>=◌}
 
 -- ---- points and vectors
 

@@ -1,12 +1,12 @@
 -- Rectangles.
 use Rattle.std.specs.Prelude.{List, [], ◌∷◌, Result, Ok}
+use Rattle.tk_token.specs.Answers.{◌>>=◌}
 use Rattle.tk_item.specs.declared.Point.{Point}
 use Rattle.tk_item.specs.declared.Seg.{Seg}
 use Rattle.tk_item.specs.declared.Seg.TheVariants.{Move, Line, Close}
 use Rattle.tk_affine.specs.declared.AffFault.{AffFault}
 use Rattle.tk_affine.specs.declared.Matrix.{Matrix}
 use Rattle.tk_affine.specs.Inverses.{corner_of}
-use Rattle.tk_affine.specs.Steps.{◌>>=◌}
 
 -- the pieces of a rectangle along the axes of the matrix, with p and q at opposite corners
 unfoldable pub rectangle_pieces : Matrix → Point → Point → Result (List Seg) AffFault

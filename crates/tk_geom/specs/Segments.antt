@@ -2,10 +2,11 @@
 -- end.
 use Rattle.std.specs.Prelude.{◌≤◌, ◌^◌, if◌then◌else◌, Result, Ok, ℤ, pos, ◌+ℤ◌, ◌-ℤ◌, ◌*ℤ◌, int_div, int_lt}
 use Rattle.std.specs.Prelude.{unsigned_abs}
+use Rattle.tk_num.specs.Number.{one}
+use Rattle.tk_token.specs.Answers.{◌>>=◌}
 use Rattle.tk_item.specs.declared.Point.{Point}
 use Rattle.tk_affine.specs.declared.AffFault.{AffFault}
 use Rattle.tk_affine.specs.Images.{point_at}
-use Rattle.tk_affine.specs.Steps.{◌>>=◌}
 use Rattle.tk_geom.specs.declared.Last.{Last}
 use Rattle.tk_geom.specs.declared.Last.TheVariants.{Nowhere, Line, Corner, Curve}
 use Rattle.tk_geom.specs.Pieces.{difference_of}
@@ -24,12 +25,12 @@ waypoint_at x y dx dy = do
 abbrev pub on_line : Point → Point → ℤ → Result Waypoint AffFault
 on_line p q t =
     let d = difference_of q p in
-    waypoint_at (p.x +ℤ int_div (d.x *ℤ t) (pos 65536)) (p.y +ℤ int_div (d.y *ℤ t) (pos 65536)) d.x d.y
+    waypoint_at (p.x +ℤ int_div (d.x *ℤ t) (pos one)) (p.y +ℤ int_div (d.y *ℤ t) (pos one)) d.x d.y
 
 -- at t on the line to a corner and on: the first half of the way is the first leg, the second half the second
 abbrev pub on_corner : Point → Point → Point → ℤ → Result Waypoint AffFault
 on_corner p corner q t =
-    if int_lt t (pos 32768) then on_line p corner (pos 2 *ℤ t) else on_line corner q (pos 2 *ℤ t -ℤ pos 65536)
+    if int_lt t (pos 32768) then on_line p corner (pos 2 *ℤ t) else on_line corner q (pos 2 *ℤ t -ℤ pos one)
 
 -- The coordinate at t of a curve whose points have the coordinates a to d: u^3*a + 3*u^2*t*b + 3*u*t^2*c + t^3*d, where
 -- u is what is left of the way. Both count 65536ths, and the whole is cut toward zero.
@@ -47,7 +48,7 @@ heading u t a b c d =
 -- at t on the curve from a to d with the control points b and c
 abbrev pub on_curve : Point → Point → Point → Point → ℤ → Result Waypoint AffFault
 on_curve a b c d t =
-    let u = pos 65536 -ℤ t in
+    let u = pos one -ℤ t in
     waypoint_at
     (cubic u t a.x b.x c.x d.x) (cubic u t a.y b.y c.y d.y)
     (heading u t a.x b.x c.x d.x) (heading u t a.y b.y c.y d.y)

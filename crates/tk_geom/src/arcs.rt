@@ -1,6 +1,7 @@
 //! Arcs of circles and ellipses.
 
 ghost use Rattle.std.specs.Prelude.{◌≡◌, ◌≤◌, ◌*◌, ◌-ℤ◌, ◌*ℤ◌, int_div, pos, unsigned_abs, IfOk};
+ghost use Rattle.tk_num.specs.Number.{one};
 ghost use Rattle.tk_num.specs.Angle.{degrees};
 ghost use Rattle.tk_geom.specs.Arcs as spec;
 ghost use Rattle.tk_geom.specs.Pieces.{difference_of, Appends, Continues};
@@ -11,10 +12,10 @@ use crate::places::{Place, xy};
 use std::alloc::{AllocError, Global};
 use tk_affine::{AffFault, Matrix, apply_vector, difference};
 use tk_item::{Point, Seg, Segs};
-use tk_num::{Scaled, cos, sin, tan};
+use tk_num::{ONE, Scaled, cos, sin, tan};
 
 /// A quarter of a turn, in 65536ths of a degree.
-const RIGHT_ANGLE: u64 = 90 * 65_536;
+const RIGHT_ANGLE: u64 = 90 * ONE as u64;
 
 /// How many pieces the arc from `a` to `b` has: one for each 90 degrees that are begun.
 fn piece_count(a: Scaled, b: Scaled) -> u32
@@ -77,7 +78,7 @@ fn control_ratio(a: Scaled, b: Scaled, n: u32) -> Scaled
     requires few { n ≤ 365 }
     requires wide { unsigned_abs (b -ℤ a) ≤ degrees 90 * n }
     ensures value { result ≡ spec.control_ratio a b n }
-    ensures within { unsigned_abs result ≤ 65536 }
+    ensures within { unsigned_abs result ≤ one }
 {
     let tangent = small_tangent(quarter_of(difference(b, a), n));
     Scaled::within(4 * tangent.sp() / 3)
@@ -120,7 +121,7 @@ impl Ellipse {
     /// The image of the vector from that point to the control point that follows.
     #[tactic(auto, unfolding(crate::specs::Arcs::control_vector))]
     fn control_vector(&self, k: Scaled, angle: Scaled) -> Result<Point, AffFault>
-        requires { unsigned_abs k ≤ 65536 }
+        requires { unsigned_abs k ≤ one }
         ensures { result ≡ spec.control_vector self.now.m self.now.rx self.now.ry k angle }
     {
         let x = portion(portion(self.rx, sin(angle)), k);
@@ -131,7 +132,7 @@ impl Ellipse {
     /// The piece round a centre from the angle `a` to the angle `b`.
     #[tactic(auto, unfolding(crate::specs::Arcs::arc_piece))]
     fn piece(&self, centre: &Place, k: Scaled, a: Scaled, b: Scaled) -> Result<Seg, AffFault>
-        requires k { unsigned_abs k ≤ 65536 }
+        requires k { unsigned_abs k ≤ one }
         requires x { unsigned_abs centre.now.x ≤ 2147483646 }
         requires y { unsigned_abs centre.now.y ≤ 2147483646 }
         ensures { result ≡ spec.arc_piece self.now.m centre.now self.now.rx self.now.ry k a b }
@@ -191,7 +192,8 @@ pub fn push_arc(
     rx: Scaled,
     ry: Scaled,
 ) -> Result<Result<(), AffFault>, AllocError>
-    ensures gives { IfOk result (λ done. Appends segs.old segs.new done (spec.arc_pieces m c a b rx ry)) }
+    ensures gives { IfOk result
+        (λ done. Appends segs.old segs.new done (spec.arc_pieces m c a b rx ry)) }
     ensures kept { Continues segs.old segs.new }
 {
     let count = piece_count(a, b);

@@ -82,7 +82,8 @@ pub fn push_circle(
     rx: Scaled,
     ry: Scaled,
 ) -> Result<Result<(), AffFault>, AllocError>
-    ensures gives { IfOk result (λ done. Appends segs.old segs.new done (spec.circle_pieces m c rx ry)) }
+    ensures gives { IfOk result
+        (λ done. Appends segs.old segs.new done (spec.circle_pieces m c rx ry)) }
     ensures fault { IfOk result (λ done. OnErr done (segs.new ≡ segs.old)) }
     ensures kept { Continues segs.old segs.new }
 {

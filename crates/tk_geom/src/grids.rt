@@ -12,16 +12,15 @@ use crate::lists::push_all;
 use crate::places::{Place, xy};
 use std::alloc::Global;
 use std::marker::Model;
-use tk_affine::{AffFault, Matrix, apply, inverse_apply};
+use tk_affine::{AffFault, Matrix, answer_at, apply, inverse_apply};
 use tk_expand::Units;
 use tk_item::{Point, Seg, Segs};
-use tk_look::answer_at;
 use tk_num::Scaled;
 use tk_token::{Code, Refusal};
 
 /// Which way a line goes.
 #[derive(Clone, Copy)]
-enum Way {
+enum LineDirection {
     Upright,
     Level,
 }
@@ -53,7 +52,7 @@ impl Model for GridLine {
 /// The lines of a grid that go one way: so many, at the multiples of a step from the multiple `first` on.
 #[derive(Clone, Copy)]
 struct Parallels {
-    way: Way,
+    direction: LineDirection,
     step: Scaled,
     first: i64,
     count: u64,
@@ -113,9 +112,10 @@ fn corners(m: &Matrix, p: &Point, q: &Point) -> Result<(Point, Point), AffFault>
 }
 
 /// The lines of a grid that go one way: at the multiples of a step about a span, each from end to end of the other.
-fn lines_about(way: Way, step: Scaled, about: &Span, ends: &Span) -> Parallels
+fn lines_about(direction: LineDirection, step: Scaled, about: &Span, ends: &Span) -> Parallels
     requires { pos 0 <ℤ step }
-    ensures value { lines_of result ≡ spec.lines_at (line_at way ends.now.low ends.now.high) step
+    ensures value { lines_of result
+        ≡ spec.lines_at (line_at direction ends.now.low ends.now.high) step
         (spec.multiples_about about.now.low about.now.high step) }
     ensures first { unsigned_abs result.first ≤ 1084479242 }
     ensures count { result.count ≤ 2168958485 }
@@ -124,7 +124,7 @@ fn lines_about(way: Way, step: Scaled, about: &Span, ends: &Span) -> Parallels
     let first = ceiling_of(about.low.sp() - edge, step.sp());
     let last = floor_of(about.high.sp() + edge, step.sp());
     Parallels {
-        way,
+        direction,
         step,
         first,
         count: count_between(first, last),
@@ -142,16 +142,16 @@ fn multiple_at(lines: &Parallels, i: u64) -> i64
 }
 
 /// A line of a grid.
-fn line_at(way: Way, ends: &Span, position: i64) -> GridLine
-    ensures { result ≡ line_at way ends.now.low ends.now.high position }
+fn line_at(direction: LineDirection, ends: &Span, position: i64) -> GridLine
+    ensures { result ≡ line_at direction ends.now.low ends.now.high position }
 {
     let (low, high) = (ends.low.sp(), ends.high.sp());
-    match way {
-        Way::Upright => GridLine {
+    match direction {
+        LineDirection::Upright => GridLine {
             from: Place::new(position, low),
             to: Place::new(position, high),
         },
-        Way::Level => GridLine {
+        LineDirection::Level => GridLine {
             from: Place::new(low, position),
             to: Place::new(high, position),
         },
@@ -184,7 +184,8 @@ fn push_line(
     at: u32,
 ) -> Result<(), Refusal>
     ensures gives { Gives (λ _. grids.grid_of segs.new units.new.used) result
-        (grids.grid_appended segs.old (grids.line_drawn m.now units.old.budget at units.old.used line)) }
+        (grids.grid_appended segs.old
+        (grids.line_drawn m.now units.old.budget at units.old.used line)) }
     ensures budget { units.new.budget ≡ units.old.budget }
     ensures kept { Continues segs.old segs.new }
 {
@@ -211,7 +212,7 @@ fn push_lines(
     ensures kept { Continues segs.old segs.new }
 {
     for i in 0..lines.count {
-        let line = line_at(lines.way, &lines.ends, multiple_at(lines, i));
+        let line = line_at(lines.direction, &lines.ends, multiple_at(lines, i));
         push_line(segs, m, line, units, at)?;
     }
     Ok(())
@@ -232,7 +233,8 @@ fn push_between(
     requires sy { pos 0 <ℤ sy }
     ensures gives { Gives (λ _. grids.grid_of segs.new units.new.used) result
         (grids.grid_appended segs.old
-        (grids.lines_drawn m.now units.old.budget at units.old.used (spec.grid_lines low.now high.now sx sy))) }
+        (grids.lines_drawn m.now units.old.budget at units.old.used
+        (spec.grid_lines low.now high.now sx sy))) }
     ensures budget { units.new.budget ≡ units.old.budget }
     ensures kept { Continues segs.old segs.new }
 {
@@ -244,8 +246,8 @@ fn push_between(
         low: low.y,
         high: high.y,
     };
-    let uprights = lines_about(Way::Upright, sx, &across, &upward);
-    let levels = lines_about(Way::Level, sy, &upward, &across);
+    let uprights = lines_about(LineDirection::Upright, sx, &across, &upward);
+    let levels = lines_about(LineDirection::Level, sy, &upward, &across);
     push_lines(segs, m, &uprights, units, at)?;
     push_lines(segs, m, &levels, units, at)?;
     Ok(())
@@ -282,7 +284,8 @@ pub fn push_grid(
     at: u32,
 ) -> Result<(), Refusal>
     ensures gives { Gives (λ _. grids.grid_of segs.new units.new.used) result
-        (grids.grid_appended segs.old (grids.grid_pieces m p q sx sy units.old.budget at units.old.used)) }
+        (grids.grid_appended segs.old
+        (grids.grid_pieces m p q sx sy units.old.budget at units.old.used)) }
     ensures budget { units.new.budget ≡ units.old.budget }
     ensures kept { Continues segs.old segs.new }
 {

@@ -20,7 +20,8 @@ pub fn multiples_lie_between()
 /// An arc has as few pieces as make at most 90 degrees each.
 pub fn arcs_have_few_pieces()
     ensures enough { (a b : ℤ) → unsigned_abs (b -ℤ a) ≤ degrees 90 * piece_count a b }
-    ensures fewest { (a b : ℤ) (n : ℕ) → unsigned_abs (b -ℤ a) ≤ degrees 90 * n → piece_count a b ≤ n }
+    ensures fewest { (a b : ℤ) (n : ℕ) → unsigned_abs (b -ℤ a) ≤ degrees 90 * n
+        → piece_count a b ≤ n }
 {}
 
 /// The angles of an arc's pieces begin at its first angle and end at its second, and a vector that was taken off a

@@ -35,7 +35,8 @@ pub fn push_rectangle(
     p: Point,
     q: Point,
 ) -> Result<Result<(), AffFault>, AllocError>
-    ensures gives { IfOk result (λ done. Appends segs.old segs.new done (spec.rectangle_pieces m p q)) }
+    ensures gives { IfOk result
+        (λ done. Appends segs.old segs.new done (spec.rectangle_pieces m p q)) }
     ensures fault { IfOk result (λ done. OnErr done (segs.new ≡ segs.old)) }
     ensures kept { Continues segs.old segs.new }
 {

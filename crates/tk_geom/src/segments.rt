@@ -1,12 +1,13 @@
 //! Places on what a path drew last.
 
 ghost use Rattle.std.specs.Prelude.{◌≡◌, ◌≤◌, ◌*◌, ◌^◌, ◌*ℤ◌, ◌+ℤ◌, ◌-ℤ◌, int_div, pos, unsigned_abs, IfOk};
+ghost use Rattle.tk_num.specs.Number.{one};
 ghost use Rattle.tk_geom.specs.Segments as spec;
 
 use crate::Last;
 use tk_affine::{AffFault, difference, point};
 use tk_item::Point;
-use tk_num::Scaled;
+use tk_num::{ONE, Scaled};
 
 /// The coordinates of the four points of a curve on one axis.
 #[derive(Clone, Copy)]
@@ -21,9 +22,9 @@ struct Axis {
 fn advanced(from: Scaled, way: i64, t: i64) -> i64
     requires way { unsigned_abs way ≤ 2147483646 }
     requires t { unsigned_abs t ≤ 1114112 }
-    ensures { result ≡ from +ℤ int_div (way *ℤ t) (pos 65536) }
+    ensures { result ≡ from +ℤ int_div (way *ℤ t) (pos one) }
 {
-    from.sp() + way * t / 65_536
+    from.sp() + way * t / ONE
 }
 
 /// The point of two coordinates, with a direction; TooLarge where a coordinate is out of range.
@@ -59,7 +60,7 @@ fn on_corner(p: &Point, corner: &Point, q: &Point, t: i64) -> Result<(Point, i64
     if t < 32_768 {
         on_line(p, corner, 2 * t)
     } else {
-        on_line(corner, q, 2 * t - 65_536)
+        on_line(corner, q, 2 * t - ONE)
     }
 }
 
@@ -138,8 +139,10 @@ fn on_axes(u: Scaled, t: Scaled, x: &Axis, y: &Axis) -> Result<(Point, i64, i64)
     requires u { unsigned_abs u ≤ 589824 }
     requires t { unsigned_abs t ≤ 589824 }
     ensures value { result ≡ spec.waypoint_at
-        (spec.cubic u t x.now.a x.now.b x.now.c x.now.d) (spec.cubic u t y.now.a y.now.b y.now.c y.now.d)
-        (spec.heading u t x.now.a x.now.b x.now.c x.now.d) (spec.heading u t y.now.a y.now.b y.now.c y.now.d) }
+        (spec.cubic u t x.now.a x.now.b x.now.c x.now.d)
+        (spec.cubic u t y.now.a y.now.b y.now.c y.now.d)
+        (spec.heading u t x.now.a x.now.b x.now.c x.now.d)
+        (spec.heading u t y.now.a y.now.b y.now.c y.now.d) }
     ensures short { IfOk result spec.IsShort }
 {
     waypoint_at(
@@ -174,7 +177,7 @@ fn on_curve(
         c: c.y,
         d: d.y,
     };
-    on_axes(Scaled::within(65_536 - t.sp()), t, &x, &y)
+    on_axes(Scaled::within(ONE - t.sp()), t, &x, &y)
 }
 
 /// The point at `t` on what a path drew last, and the direction in which the path goes there, as the two numbers of a

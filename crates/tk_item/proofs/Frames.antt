@@ -1,19 +1,15 @@
 -- The frame is the least box round what it is made of, and stays within its range.
 use Rattle.std.proofs.Common.{◌≡◌, refl, ap, List, [], ◌∷◌, ◌++◌, map, Option, Some, None, arith, ℕ, ◌≤◌, length, take, take_all, ℤ, pos, true}
 use Rattle.std.specs.Prelude.{◌≤ℤ◌, IfSome, IsNone, is_some, ◌↔◌}
-use Rattle.std.specs.List.{All}
 use Rattle.std.specs.Option.{option_to_list}
 use Rattle.std.proofs.lemmas.Int.{ints, clamps}
 use Rattle.std.proofs.lemmas.Option.{IfSome_then}
-use Rattle.std.proofs.lemmas.List.{map-append}
-use Rattle.std.proofs.lemmas.List.Concat.{flat_map-append}
-use Rattle.std.proofs.lemmas.List.Sums.{fold-append}
-use Rattle.std.proofs.lemmas.List.Elements.{All-nil, All-cons, All-head, All-tail, All-map, All-weaker}
+use Rattle.std.proofs.lemmas.List.Elements.{All-nil, All-cons, All-head, All-tail}
 use Rattle.tk_num.specs.Number.{IsScaled}
 use Rattle.tk_item.specs.declared.Frame.{Frame}
 use Rattle.tk_item.specs.declared.Point.{Point}
 use Rattle.tk_item.specs.declared.Seg.{Seg}
-use Rattle.tk_item.specs.Frame.{points_of_path, points_of_piece, box_round, joined, with_box, round_boxes, round_points, IsWithin, AreWithin}
+use Rattle.tk_item.specs.Frame.{points_of_path, box_round, joined, with_box, round_boxes, round_points, IsWithin, AreWithin}
 use Rattle.tk_item.specs.Frame.{IsLeastRound, IsProperFrame}
 
 -- ---- one box within another
@@ -116,24 +112,6 @@ none_round_points half frame points =
     let (there, back) = none_round frame (map (box_round half) points) in
     (λ none. let (f, p) = there none in (f, no_points half points p), λ both. let (f, p) = both in back (f, ap (map (box_round half)) p))
 
--- ---- in turn
-
--- boxes after boxes
-pub round_boxes-append : (frame : Option Frame) (xs ys : List Frame) → round_boxes frame (xs ++ ys) ≡ round_boxes (round_boxes frame xs) ys
-round_boxes-append frame xs ys = fold-append with_box frame xs ys
-
--- points after points
-pub round_points-append : (half : ℤ) (frame : Option Frame) (xs ys : List Point)
-    → round_points half frame (xs ++ ys) ≡ round_points half (round_points half frame xs) ys
-round_points-append half frame xs ys =
-    rw (map-append (box_round half) xs ys) (fold-append with_box frame (map (box_round half) xs) (map (box_round half) ys))
-
--- pieces after pieces
-pub round_pieces-append : (half : ℤ) (frame : Option Frame) (xs ys : List Seg)
-    → round_points half frame (points_of_path (xs ++ ys)) ≡ round_points half (round_points half frame (points_of_path xs)) (points_of_path ys)
-round_pieces-append half frame xs ys =
-    rw (flat_map-append points_of_piece xs ys) (round_points-append half frame (points_of_path xs) (points_of_path ys))
-
 -- ---- the code's steps
 
 -- three points one by one
@@ -168,20 +146,3 @@ box_proper half p low high x_in y_in = record {
   right = omega (arith, ints);
   top = omega (arith, ints);
 }
-
-boxes_proper : (frame : Option Frame) (boxes : List Frame) → All IsProperFrame boxes → IfSome frame IsProperFrame
-    → IfSome (round_boxes frame boxes) IsProperFrame
-boxes_proper frame [] all fine = fine
-boxes_proper None (g ∷ boxes) all fine = boxes_proper (Some g) boxes (All-tail IsProperFrame g boxes all) (All-head IsProperFrame g boxes all)
-boxes_proper (Some f) (g ∷ boxes) all fine =
-    boxes_proper (Some (joined f g)) boxes (All-tail IsProperFrame g boxes all) (joined_proper f g fine (All-head IsProperFrame g boxes all))
-
-abbrev IsScaledPoint : Point → Type 0
-IsScaledPoint p = IsScaled p.x × IsScaled p.y
-
--- a frame round scaled points stays within its range
-pub points_proper : (half : ℤ) (frame : Option Frame) (points : List Point) → pos 0 ≤ℤ half → half ≤ℤ pos 536870912
-    → All (λ p. IsScaled p.x × IsScaled p.y) points → IfSome frame IsProperFrame → IfSome (round_points half frame points) IsProperFrame
-points_proper half frame points low high scaled fine =
-    boxes_proper frame (map (box_round half) points) (All-map IsProperFrame (box_round half) points
-    (All-weaker IsScaledPoint (λ p. IsProperFrame (box_round half p)) (λ p both. box_proper half p low high both.0 both.1) points scaled)) fine

@@ -15,8 +15,8 @@ use Rattle.tk_expand.specs.Unread.{Unread, unread, past_spaces}
 use Rattle.tk_expand.specs.Expand.{Stream, stream, full}
 use Rattle.tk_expand.specs.Reading.{Read, read, next_token, after_token, token_value}
 use Rattle.tk_expand.proofs.Places.{StandAt, Stands, StreamAt, CutAt, BodiesAt, full_at}
-use Rattle.tk_define.specs.declared.Command.{Command}
-use Rattle.tk_define.specs.declared.Command.TheVariants.{Def, Edef, NewCommand}
+use Rattle.tk_define.specs.declared.DefinitionWord.{DefinitionWord}
+use Rattle.tk_define.specs.declared.DefinitionWord.TheVariants.{Def, Edef, NewCommand}
 use Rattle.tk_define.specs.declared.Definition.{Definition}
 use Rattle.tk_define.specs.Heads.{digit, parameters, name_start, braced_name, name_from, name_of, bracketed_count, count_from, count_of}
 use Rattle.tk_define.specs.Definitions.{body_in, def, new_command, Defined, for_nothing, edef, defined}
@@ -211,7 +211,7 @@ module _ (P : ℕ → Type 0) (n end : ℕ) where
       (full_spends budget macros text)) (λ r d.
       record { spent = d.1; list = c.list; body = d.0 }))))
 
-  pub defined_within : (kind : Command) (budget : ℕ) (macros : Macros) (s : Stream) → BodiesAt P macros → Within P n end s.list
+  pub defined_within : (kind : DefinitionWord) (budget : ℕ) (macros : Macros) (s : Stream) → BodiesAt P macros → Within P n end s.list
       → Stands P (DefinedWithin s.units) (defined kind budget macros s)
   defined_within Def budget macros s bodies h = nothing_spent s.units (def s.list) (def_within s.list h)
   defined_within NewCommand budget macros s bodies h = nothing_spent s.units (new_command s.list) (command_within s.list h)

@@ -23,7 +23,7 @@ use Rattle.tk_expand.proofs.Falling.{Takes, next_takes}
 use Rattle.tk_expand.proofs.Lengths.{IsNoLonger, argument_no_longer}
 use Rattle.tk_expand.proofs.NextPlaces.{TokenAt, NextAt, next_at}
 use Rattle.tk_expand.proofs.Places.{StandAt, Stands, StreamAt, CutAt, argument_at, full_at}
-use Rattle.tk_define.specs.declared.Command.{Command}
+use Rattle.tk_define.specs.declared.DefinitionWord.{DefinitionWord}
 use Rattle.tk_define.specs.Definitions.{defined}
 use Rattle.tk_keytext.specs.Entries.{no_entry}
 use Rattle.tk_keytext.specs.Parts.{KeyPart, parts_of}
@@ -99,7 +99,7 @@ module _ (P : ℕ → Type 0) where
       by (Some word) text k = k.list
 
   module _ (given : Given) (evaluates : EvaluatesAt P given) where
-    define_at : (kind : Command) (s : Situation) (list : Unread) → EnvAt P s.env → ListAt list → Stands P (SetAt s list) (define given kind s list)
+    define_at : (kind : DefinitionWord) (s : Situation) (list : Unread) → EnvAt P s.env → ListAt list → Stands P (SetAt s list) (define given kind s list)
     define_at kind s list env h =
         then_at P (DefinedWithin P (length list.rest) list.end s.units) (SetAt s list) (defined kind given.budget s.env.macros (stream s.units list))
         _ (defined_within P (length list.rest) list.end kind given.budget s.env.macros (stream s.units list) env.bodies

@@ -21,8 +21,8 @@ use Rattle.tk_expand.specs.Arguments.{argument_of}
 use Rattle.tk_expand.specs.Expand.{Stream, stream, full}
 use Rattle.tk_expand.specs.Reading.{Read, read, next}
 use Rattle.tk_expand.specs.Unread.{Unread, unread}
-use Rattle.tk_define.specs.declared.Command.{Command}
-use Rattle.tk_define.specs.declared.Command.TheVariants.{Def, Edef, NewCommand}
+use Rattle.tk_define.specs.declared.DefinitionWord.{DefinitionWord}
+use Rattle.tk_define.specs.declared.DefinitionWord.TheVariants.{Def, Edef, NewCommand}
 use Rattle.tk_define.specs.Definitions.{defined}
 use Rattle.tk_keytext.specs.Entries.{no_entry}
 use Rattle.tk_keytext.specs.Parts.{KeyPart, parts_of}
@@ -168,7 +168,7 @@ pub data Runnable : Type 0 where
 
 module _ (given : Given) where
   -- a definition, whose command was taken
-  abbrev pub define : Command → Situation → Unread → Answer Set
+  abbrev pub define : DefinitionWord → Situation → Unread → Answer Set
   define kind s list = do
     d ← defined kind given.budget s.env.macros (stream s.units list)
     let env = with_macro s.env d.definition.word d.definition.value

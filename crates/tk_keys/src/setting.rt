@@ -5,7 +5,7 @@ ghost use Rattle.std.specs.List.{slice_get};
 ghost use Rattle.tk_keys.specs.Settings as settings;
 
 use crate::State;
-use tk_define::Command;
+use tk_define::DefinitionWord;
 use tk_token::Kind;
 
 /// The default path that a key list begins with.
@@ -23,7 +23,7 @@ pub(crate) enum Origin {
 pub(crate) enum Setting {
     /// `\relax`, a Space and `;` set nothing.
     Nothing,
-    Define(Command),
+    Define(DefinitionWord),
     /// A key list.
     Keys(Origin),
     /// `\pgfkeyssetvalue`
@@ -41,9 +41,9 @@ fn setting_by(word: &str) -> Option<Setting>
     ensures { result ≡ settings.setting_by word.now }
 {
     match word {
-        "def" => Some(Setting::Define(Command::Def)),
-        "edef" => Some(Setting::Define(Command::Edef)),
-        "newcommand" | "renewcommand" => Some(Setting::Define(Command::NewCommand)),
+        "def" => Some(Setting::Define(DefinitionWord::Def)),
+        "edef" => Some(Setting::Define(DefinitionWord::Edef)),
+        "newcommand" | "renewcommand" => Some(Setting::Define(DefinitionWord::NewCommand)),
         "pgfkeys" => Some(Setting::Keys(Origin::Root)),
         "pgfkeysalso" => Some(Setting::Keys(Origin::Here)),
         "tikzset" => Some(Setting::Keys(Origin::Tikz)),

@@ -20,7 +20,7 @@ ghost use Rattle.tk_keys.specs.Views.{key_of, number_set, value_behind, given_by
 use crate::keys::path_from;
 use crate::{Dir, State};
 use std::alloc::{AllocError, Global};
-use tk_define::{Command, read_definition};
+use tk_define::{DefinitionWord, read_definition};
 use tk_expand::{Input, Units, expand_all};
 use tk_expr::{FontUnits, eval};
 use tk_keytext::no_entry;
@@ -44,7 +44,7 @@ fn word_argument(at: u32, input: &mut Input) -> Result<u32, Refusal>
 
 impl State {
     /// Makes a definition, whose command was taken.
-    pub(crate) fn define(&mut self, kind: Command, input: &mut Input) -> Result<(), Refusal>
+    pub(crate) fn define(&mut self, kind: DefinitionWord, input: &mut Input) -> Result<(), Refusal>
         ensures gives { Gives (λ _. behind_set self.new input.new) result
             (settings.define (given_of evaluated self.old) kind (situation_of self.old) input.old) }
         ensures kept { OnOk result (Keeps self.old self.new) }

@@ -30,6 +30,7 @@ use Rattle.tk_affine.specs.declared.AffFault.{AffFault}
 use Rattle.tk_affine.specs.declared.Anchor.{Anchor as NodeAnchor}
 use Rattle.tk_affine.specs.declared.Matrix.{Matrix}
 use Rattle.tk_affine.specs.declared.Shape.{Shape as NodeShape}
+use Rattle.tk_affine.specs.Faults.{answer_at}
 use Rattle.tk_affine.specs.Steps.{with_steps}
 use Rattle.tk_expr.specs.declared.FontUnits.{FontUnits}
 use Rattle.tk_expr.specs.declared.Value.{Value}
@@ -42,7 +43,7 @@ use Rattle.tk_look.specs.Applied.{paint_by, paint, with_name, shaped_or_unknown,
 use Rattle.tk_look.specs.Applied.{side_length, position_value, set_look, transformed, native_applied}
 use Rattle.tk_look.specs.Colours.{colour_of}
 use Rattle.tk_look.specs.Dashes.{Dash, up_to_word, behind_word, dash_of, all_dashes, dash_length, dash_lengths, pattern_value}
-use Rattle.tk_look.specs.Graphics.{answer_at, graphics_by}
+use Rattle.tk_look.specs.Graphics.{graphics_by}
 use Rattle.tk_look.specs.Values.{found_in, colour_in, before_closing, between_parentheses, value_there, word_value, colour_value, at_least, is_misfit}
 use Rattle.tk_look.specs.Values.{as_anchor, measure_value, number_value, number_from, anchor_by, anchor_value, vector_value}
 use Rattle.tk_look.specs.Words.{caps, joins, shapes, anchors}

@@ -1,13 +1,10 @@
 -- Where and how what follows is drawn, and what the native keys make of it.
-use Rattle.std.specs.Prelude.{ℕ, List, Option, Ok, Err, Result}
-use Rattle.tk_token.specs.declared.Code.{Code}
-use Rattle.tk_token.specs.declared.Code.TheVariants as codes
+use Rattle.std.specs.Prelude.{ℕ, List, Option, Ok}
 use Rattle.tk_token.specs.declared.Tok.{Tok}
-use Rattle.tk_token.specs.Answers.{Answer, ◌>>=◌, fault}
+use Rattle.tk_token.specs.Answers.{Answer, ◌>>=◌}
 use Rattle.tk_native.specs.declared.Native.{Native}
-use Rattle.tk_affine.specs.declared.AffFault.{AffFault}
-use Rattle.tk_affine.specs.declared.AffFault.TheVariants as faults
 use Rattle.tk_affine.specs.declared.Matrix.{Matrix}
+use Rattle.tk_affine.specs.Faults.{answer_at}
 use Rattle.tk_affine.specs.Steps.{unmoved, with_steps}
 use Rattle.tk_expr.specs.declared.FontUnits.{FontUnits}
 use Rattle.tk_expr.specs.Evaluates.{Evaluation}
@@ -22,16 +19,6 @@ initial_graphics font = record { matrix = unmoved; look = initial_look font }
 -- the same in a level that opens: what it draws has no name yet
 abbrev pub graphics_below : GraphicsState → GraphicsState
 graphics_below g = record g { look = look_below g.look }
-
--- the code of a fault of matrices
-abbrev pub matrix_code : AffFault → Code
-matrix_code faults.TooLarge = codes.TooLarge
-matrix_code faults.Singular = codes.Singular
-
--- what is found by matrices, or its fault at a place
-abbrev pub answer_at : {A : Type 0} → ℕ → Result A AffFault → Answer A
-answer_at at (Ok x) = Ok x
-answer_at at (Err e) = fault (matrix_code e) at
 
 -- What a native key makes of its value and of what was set so far: its steps come behind those of the matrix, one after
 -- another.

@@ -1,9 +1,8 @@
 -- How the values of native keys are read.
 use Rattle.std.specs.Prelude.{ℕ, Bool, true, false, int_le, if◌then◌else◌, List, [], ◌∷◌, Option, Some, None, Ok, Err}
 use Rattle.std.specs.Prelude.{option_map, option_and_then, ℤ}
-use Rattle.std.specs.Map.{lookup}
-use Rattle.std.specs.Str.{bytes_eq}
 use Rattle.tk_characters.specs.Characters.{left_parenthesis, right_parenthesis}
+use Rattle.tk_characters.specs.Words.{word_meaning}
 use Rattle.tk_item.specs.declared.Point.{Point}
 use Rattle.tk_item.specs.declared.Rgb.{Rgb}
 use Rattle.tk_token.specs.declared.Code.{Code}
@@ -28,7 +27,7 @@ use Rattle.tk_look.specs.Words.{anchors}
 
 -- what stands in a table at the text of tokens
 abbrev pub found_in : {A : Type 0} → List (List ℕ × A) → List Tok → Option A
-found_in table list = option_and_then (λ text. lookup (bytes_eq text) table) (text_in list)
+found_in table list = option_and_then (word_meaning table) (text_in list)
 
 -- the colour of the text of tokens
 abbrev pub colour_in : List Tok → Option Rgb

@@ -1,6 +1,6 @@
 //! Where and how what follows is drawn.
 
-ghost use Rattle.std.specs.Prelude.{◌≡◌, MatchResult, Ok, Err, option_copied};
+ghost use Rattle.std.specs.Prelude.{◌≡◌, option_copied};
 ghost use Rattle.tk_token.specs.Refusals.{Gives};
 ghost use Rattle.tk_affine.specs.Steps.{with_steps};
 ghost use Rattle.tk_expr.specs.Evaluated.{evaluated};
@@ -10,10 +10,10 @@ ghost use Rattle.tk_look.specs.Graphics as spec;
 use crate::steps::Steps;
 use crate::{GraphicsState, Look};
 use std::alloc::Global;
-use tk_affine::{AffFault, Matrix, concat, identity};
+use tk_affine::{AffFault, Matrix, answer_at, concat, identity};
 use tk_expr::FontUnits;
 use tk_native::Native;
-use tk_token::{Code, Fault, Refusal, Tok};
+use tk_token::{Refusal, Tok};
 
 impl GraphicsState {
     /// Nothing is moved, and nothing was set. This takes no memory.
@@ -71,26 +71,6 @@ impl GraphicsState {
             (spec.graphics_by at ev font key name.now (option_copied value.entry) self.old) }
     {
         self.set_by_machine(alloc, key, name, value, font, at)
-    }
-}
-
-/// What is found by matrices, or its fault at a place.
-pub fn answer_at<T>(found: Result<T, AffFault>, at: u32) -> Result<T, Fault>
-    ensures { result ≡ spec.answer_at at found }
-{
-    match found {
-        Ok(value) => Ok(value),
-        Err(fault) => Err(Fault::new(matrix_code(fault), at)),
-    }
-}
-
-/// The code of a fault of matrices.
-fn matrix_code(fault: AffFault) -> Code
-    ensures { result ≡ spec.matrix_code fault }
-{
-    match fault {
-        AffFault::TooLarge => Code::TooLarge,
-        AffFault::Singular => Code::Singular,
     }
 }
 

@@ -8,7 +8,7 @@ use crate::{LineWidth, Look, MiterLimit};
 use tk_affine::{Anchor, Shape};
 use tk_expr::{FontUnits, Value};
 use tk_item::{Cap, Dashes, Join, Rgb, Rule};
-use tk_num::{Scaled, mul};
+use tk_num::{ONE, Scaled, mul};
 
 /// A length in scaled points that was written with its unit.
 fn length_written(number: Scaled) -> Value
@@ -53,8 +53,8 @@ impl Look {
             inner_ysep: inner_sep(font.em),
             outer_xsep: None,
             outer_ysep: None,
-            minimum_width: Scaled::within(65_536),
-            minimum_height: Scaled::within(65_536),
+            minimum_width: Scaled::within(ONE),
+            minimum_height: Scaled::within(ONE),
             anchor: Anchor::Center,
             pos: None,
             sloped: false,

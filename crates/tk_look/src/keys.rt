@@ -26,7 +26,7 @@ use tk_native::{
     AngleKey, ColourKey, FlagKey, LengthKey, LookKey, MeasureKey, Native, PaintKey, Side,
     TransformKey,
 };
-use tk_num::Scaled;
+use tk_num::{ONE, Scaled};
 use tk_token::{Code, Fault, Refusal, Tok, text_in, trimmed};
 
 impl Look {
@@ -177,7 +177,7 @@ impl Look {
         match key {
             FlagKey::Solid => self.dash_pattern = Dashes::new(),
             FlagKey::Dotted => self.set_dots(Scaled::within(131_072)),
-            FlagKey::DenselyDotted => self.set_dots(Scaled::within(65_536)),
+            FlagKey::DenselyDotted => self.set_dots(Scaled::within(ONE)),
             FlagKey::LooselyDotted => self.set_dots(Scaled::within(262_144)),
             FlagKey::EvenOddRule => self.fill_rule = Rule::EvenOdd,
             FlagKey::NonZeroRule => self.fill_rule = Rule::NonZero,

@@ -3,7 +3,7 @@
 ghost use Rattle.std.specs.Prelude.{◌≡◌, int_le, nat_le, pos, ◌≤ℤ◌, ◌≤◌, unsigned_abs, if◌then◌else◌, Some, None};
 
 use std::marker::Model;
-use tk_num::Scaled;
+use tk_num::{ONE, Scaled};
 
 /// The width of a line in scaled points, which isn't negative.
 #[derive(Clone, Copy, PartialEq, Eq)]
@@ -67,7 +67,7 @@ impl MiterLimit {
     pub fn new(limit: Scaled) -> Option<MiterLimit>
         ensures { result ≡ (if int_le (pos 65536) limit then Some limit else None) }
     {
-        if limit.sp() >= 65_536 {
+        if limit.sp() >= ONE {
             Some(MiterLimit { limit })
         } else {
             None

@@ -14,7 +14,6 @@ mod values;
 mod words;
 
 pub use colours::colour;
-pub use graphics::answer_at;
 pub use keys::apply;
 pub use lengths::{LineWidth, MiterLimit, Position};
 pub use names::NodeName;

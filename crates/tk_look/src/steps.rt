@@ -17,7 +17,7 @@ use tk_affine::{Anchor, Matrix, Step};
 use tk_expr::FontUnits;
 use tk_item::Point;
 use tk_native::{Side, StepKey};
-use tk_num::{Scaled, mul};
+use tk_num::{ONE, Scaled, mul};
 use tk_token::{Code, Fault, Tok, before_char};
 
 /// The step of one number; 65536 is one.
@@ -25,7 +25,7 @@ pub(crate) fn step_of(key: StepKey, x: Scaled) -> Step
     ensures { result ≡ spec.step_of key x }
 {
     let nothing = Scaled::within(0);
-    let one = Scaled::within(65_536);
+    let one = Scaled::within(ONE);
     match key {
         StepKey::XShift => Step::Shift(x, nothing),
         StepKey::YShift => Step::Shift(nothing, x),

@@ -1,6 +1,6 @@
 -- Digits read one after another.
-use Rattle.std.proofs.Common.{◌≡◌, ℕ, ◌+◌, ◌-◌, ◌*◌, ◌^◌, ◌<◌, ◌≤◌, Bool, true, List, length, get_or, take, Some, None, ap, ◌∙◌, arith, min, length-take}
-use Rattle.std.specs.List.{list_all, position, position_or_len}
+use Rattle.std.proofs.Common.{◌≡◌, ℕ, ◌+◌, ◌-◌, ◌*◌, ◌^◌, ◌<◌, ◌≤◌, true, List, length, get_or, take, ap, ◌∙◌, arith, min, length-take}
+use Rattle.std.specs.List.{list_all}
 use Rattle.std.specs.Char.{is_ascii_digit, digit_value}
 use Rattle.std.specs.Str.Parse.{digits_value}
 use Rattle.std.proofs.Math.Nat.{pow-le-pow_right, div-lt_iff_lt-mul}
@@ -32,12 +32,6 @@ below_pow_more n i d lt le = rw (pow_more 10 i) (omega arith)
 
 pub powers_of_ten_rise_to_17 : (i : ℕ) → i ≤ 17 → 10 ^ i ≤ 10 ^ 17
 powers_of_ten_rise_to_17 i le = pow-le-pow_right (omega arith) le
-
-pub position_some : (p : ℕ → Bool) (xs : List ℕ) (k : ℕ) → Some k ≡ position p xs → position_or_len p xs ≡ k
-position_some p xs k e = grind (arith, nat_tests)
-
-pub position_none : (p : ℕ → Bool) (xs : List ℕ) → None ≡ position p xs → length xs ≤ position_or_len p xs
-position_none p xs e = grind (arith, nat_tests)
 
 -- more digits never make a smaller number
 pub value_bound : (ds : List ℕ) (i most : ℕ) → most < digits_value 10 (take i ds) → most < digits_value 10 ds

@@ -244,7 +244,3 @@ digits_room f rest delta before now a =
       length-fixed a.count
           (scaled_up a.count f / 131072),
     )
-
-pub digit_is_small : (f rest delta s : ℕ) (before now : List ℕ) → AtDigit f before now rest delta
-    → s ≡ cond (ltb 65536 delta) (rest + 32768 - 50000) rest → s < 655360
-digit_is_small f rest delta s before now a e = let r = a.rest_is in grind (arith, nat_tests)

@@ -1,12 +1,12 @@
 -- What the printing calls put together.
-use Rattle.std.proofs.Common.{◌≡◌, ◌≢◌, ℕ, ◌+◌, ◌/◌, ◌%◌, ◌^◌, ◌<◌, ◌≤◌, Bool, true, false, eqb, List, [], ◌∷◌, ◌++◌, length, ℤ, unsigned_abs, refl}
-use Rattle.std.proofs.Common.{sym, ap, subst, lit<, eq-eqb, ◌∙◌, arith, append_assoc, append-nil, length-append, SFits}
+use Rattle.std.proofs.Common.{◌≡◌, ◌≢◌, ℕ, ◌/◌, ◌%◌, ◌^◌, ◌<◌, ◌≤◌, Bool, true, false, eqb, List, [], ◌∷◌, ◌++◌, length, ℤ, unsigned_abs, refl}
+use Rattle.std.proofs.Common.{sym, ap, subst, lit<, eq-eqb, ◌∙◌, arith, append_assoc, append-nil, SFits}
 use Rattle.std.specs.Prelude.{negsuc, pos, IsAscii, IsUtf8}
 use Rattle.std.proofs.lemmas.Bool.{eqb-true}
 use Rattle.std.proofs.lemmas.Bool.Decides.{nat_tests}
 use Rattle.std.proofs.lemmas.Str.{IsAscii-append, IsUtf8-from_ascii}
 use Rattle.std.proofs.lemmas.Str.Ascii.{IsAscii-nil, IsAscii-cons}
-use Rattle.std.proofs.lemmas.Fmt.{length-decimal-le, decimal_digit, decimal_step, IsAscii-decimal, IsAscii-from_digits}
+use Rattle.std.proofs.lemmas.Fmt.{length-decimal-le, IsAscii-decimal, IsAscii-from_digits}
 use Rattle.std.specs.Fmt.{decimal}
 use Rattle.std.specs.Int.{w64}
 use Rattle.std.proofs.Math.Facts.{Fits-nat_abs}
@@ -15,13 +15,6 @@ use Rattle.tk_num.specs.Text.{sign_text, part_text, fewest_digits, nearest_digit
 
 pub length-whole : (w : ℕ) → w ≤ 140737488355328 → length (decimal w) ≤ 15
 length-whole w le = length-decimal-le 15 w (omega arith) (omega arith) (omega arith)
-
--- a digit, and a digit more
-pub length-first : (w : ℕ) → w < 10 → length (decimal w) ≡ 1
-length-first w lt = ap length (decimal_digit w lt)
-
-pub length-last : (w : ℕ) → 10 ≤ w → w < 2 ^ 64 → length (decimal w) ≡ length (decimal (w / 10)) + 1
-length-last w le lt = ap length (decimal_step w le lt) ∙ length-append (decimal (w / 10)) ((48 + w % 10) ∷ [])
 
 not_zero : (n : ℕ) → n ≢ 0 → eqb n 0 ≡ false
 not_zero n ne = grind (arith, nat_tests)

@@ -2,7 +2,7 @@
 use Rattle.std.specs.Prelude.{ℕ, ◌+◌, ◌-◌, ◌*◌, ◌/◌, ◌%◌, nat_lt, nat_le, if◌then◌else◌, List, [], ◌∷◌, slice_index}
 use Rattle.std.specs.Prelude.{Result, ℤ, pos, neg_ℤ, ◌+ℤ◌, unsigned_abs}
 use Rattle.std.specs.Int.{int_rem_euclid}
-use Rattle.tk_num.specs.Number.{quotient}
+use Rattle.tk_num.specs.Number.{one, quotient}
 use Rattle.tk_num.specs.declared.NumFault.{NumFault}
 
 -- the sines of 0 to 90 degrees, in 65536ths
@@ -21,13 +21,13 @@ sines =
 
 -- n degrees, in 65536ths
 abbrev pub degrees : ℕ → ℕ
-degrees n = 65536 * n
+degrees n = one * n
 
 -- the sine up to 90 degrees, on the straight line between two whole degrees, cut downward
 abbrev pub quarter_sine : ℕ → ℕ
 quarter_sine a =
-    slice_index sines (a / 65536)
-    + (slice_index sines (a / 65536 + 1) - slice_index sines (a / 65536)) * (a % 65536) / 65536
+    slice_index sines (a / one)
+    + (slice_index sines (a / one + 1) - slice_index sines (a / one)) * (a % one) / one
 
 -- the sine up to 180 degrees: past 90 it is that of 180 minus the angle
 abbrev pub half_sine : ℕ → ℕ

@@ -9,6 +9,10 @@ use Rattle.tk_characters.specs.Characters.{point}
 use Rattle.tk_num.specs.declared.NumFault.{NumFault}
 use Rattle.tk_num.specs.declared.NumFault.TheVariants.{TooLarge, DivZero, Domain}
 
+-- one whole, in 65536ths
+abbrev pub one : ℕ
+one = 65536
+
 -- a scaled number is at most this, either way
 abbrev pub IsScaled : ℤ → Type 0
 IsScaled z = unsigned_abs z ≤ 1073741823
@@ -23,11 +27,11 @@ scaled z = if is_scaled z then Ok z else Err TooLarge
 
 -- the product of two numbers in 65536ths, cut toward zero
 abbrev pub product : ℤ → ℤ → ℤ
-product x y = int_div (x *ℤ y) (pos 65536)
+product x y = int_div (x *ℤ y) (pos one)
 
 -- the quotient of two numbers in 65536ths, cut toward zero
 abbrev pub quotient : ℤ → ℤ → Result ℤ NumFault
-quotient x y = if unsigned_abs y == 0 then Err DivZero else scaled (int_div (x *ℤ pos 65536) y)
+quotient x y = if unsigned_abs y == 0 then Err DivZero else scaled (int_div (x *ℤ pos one) y)
 
 -- the greatest whole number whose square is at most n: it grows by one where the next square is reached
 unfoldable pub floor_root : ℕ → ℕ
@@ -44,7 +48,7 @@ pub record IsFloorRoot (n r : ℕ) : Type 0 where
 
 -- the square root of a number in 65536ths, cut to a whole 65536th
 abbrev pub square_root : ℤ → Result ℤ NumFault
-square_root (pos n) = Ok (pos (floor_root (n * 65536)))
+square_root (pos n) = Ok (pos (floor_root (n * one)))
 square_root (negsuc n) = Err Domain
 
 -- ---- decimals
@@ -79,7 +83,7 @@ fraction_of ds = nearest_65536th (length (take 17 ds)) (digits_value 10 (take 17
 
 -- what a decimal stands for, in 65536ths: 32768 for `.5`
 abbrev pub decimal_value : List ℕ → ℕ
-decimal_value text = 65536 * digits_value 10 (whole_digits text) + fraction_of (part_digits text)
+decimal_value text = one * digits_value 10 (whole_digits text) + fraction_of (part_digits text)
 
 -- a whole part from 0 up to the greatest
 abbrev pub IsWhole : ℤ → Type 0
@@ -92,6 +96,6 @@ IsFraction z = (pos 0 ≤ℤ z) × (z ≤ℤ pos 65535)
 -- whole part and 65536ths of a decimal, where the whole part is at most 1073741823: 28 and 29671 for `28.45274`
 abbrev pub decimal_parts : List ℕ → Option (ℤ × ℤ)
 decimal_parts text =
-    if is_decimal text && nat_le (decimal_value text / 65536) 1073741823
-    then Some (pos (decimal_value text / 65536), pos (decimal_value text % 65536))
+    if is_decimal text && nat_le (decimal_value text / one) 1073741823
+    then Some (pos (decimal_value text / one), pos (decimal_value text % one))
     else None

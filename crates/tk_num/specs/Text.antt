@@ -3,7 +3,7 @@ use Rattle.std.specs.Prelude.{◌≡◌, ℕ, zero, suc, ◌+◌, ◌-◌, ◌*�
 use Rattle.std.specs.Prelude.{if◌then◌else◌, List, [], ◌∷◌, ◌++◌, length, ℤ, pos, negsuc, unsigned_abs, codes, decimal}
 use Rattle.std.specs.Str.Parse.{digits_value}
 use Rattle.tk_characters.specs.Characters.{point}
-use Rattle.tk_num.specs.Number.{nearest_65536th, whole_digits, part_digits, is_decimal, decimal_value}
+use Rattle.tk_num.specs.Number.{one, nearest_65536th, whole_digits, part_digits, is_decimal, decimal_value}
 
 -- ---- the choice among all texts
 
@@ -24,7 +24,7 @@ pub record ReadsBack (n : ℕ) (text : List ℕ) : Type 0 where
 
 -- how far m / 10 ^ k is from f / 65536, in parts of 65536 * 10 ^ k
 abbrev pub distance : ℕ → ℕ → ℕ → ℕ
-distance k m f = (65536 * m - 10 ^ k * f) + (10 ^ k * f - 65536 * m)
+distance k m f = (one * m - 10 ^ k * f) + (10 ^ k * f - one * m)
 
 -- the digits after the point are so many
 abbrev pub places : List ℕ → ℕ
@@ -88,7 +88,7 @@ fixed_digits (suc n) m = fixed_digits n (m / 10) ++ (48 + m % 10) ∷ []
 
 -- the n digits nearest to a fraction of 65536ths, ties upward
 abbrev pub nearest_digits : ℕ → ℕ → ℕ
-nearest_digits n f = (2 * 10 ^ n * f + 65536) / 131072
+nearest_digits n f = (2 * 10 ^ n * f + one) / 131072
 
 -- these digits read back as that fraction
 abbrev pub reads_back : ℕ → ℕ → Bool
@@ -108,14 +108,14 @@ part_text f = fixed_digits (fewest_digits f) (nearest_digits (fewest_digits f) f
 
 -- the text with a point: `-0.4` for -26214, `1.0` for 65536
 abbrev pub pointed_text : ℤ → List ℕ
-pointed_text z = sign_text z ++ decimal (unsigned_abs z / 65536) ++ point ∷ part_text (unsigned_abs z % 65536)
+pointed_text z = sign_text z ++ decimal (unsigned_abs z / one) ++ point ∷ part_text (unsigned_abs z % one)
 
 -- the same without a point where none is needed: `-0.4` for -26214, `1` for 65536
 unfoldable pub text_of : ℤ → List ℕ
 text_of z =
     sign_text z
-    ++ decimal (unsigned_abs z / 65536)
-    ++ (if unsigned_abs z % 65536 == 0 then [] else point ∷ part_text (unsigned_abs z % 65536))
+    ++ decimal (unsigned_abs z / one)
+    ++ (if unsigned_abs z % one == 0 then [] else point ∷ part_text (unsigned_abs z % one))
 
 -- the text without its sign
 abbrev pub unsigned_text : ℤ → List ℕ

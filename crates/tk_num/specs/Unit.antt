@@ -1,6 +1,6 @@
 -- Lengths in the units of TeX (Knuth, TeX: The Program, section 458).
 use Rattle.std.specs.Prelude.{ℕ, ◌*◌, ◌/◌, ℤ, pos}
-use Rattle.tk_num.specs.Number.{product}
+use Rattle.tk_num.specs.Number.{one, product}
 use Rattle.tk_num.specs.declared.unit.Unit.{Unit}
 use Rattle.tk_num.specs.declared.unit.Unit.TheVariants.{Pt, Pc, In, Bp, Cm, Mm, Dd, Cc, Sp, Em, Ex}
 
@@ -19,6 +19,6 @@ length_in Cm v em ex = pos (converted 7227 254 v)
 length_in Mm v em ex = pos (converted 7227 2540 v)
 length_in Dd v em ex = pos (converted 1238 1157 v)
 length_in Cc v em ex = pos (converted 14856 1157 v)
-length_in Sp v em ex = pos (v / 65536)
+length_in Sp v em ex = pos (v / one)
 length_in Em v em ex = product (pos v) em
 length_in Ex v em ex = product (pos v) ex

@@ -1,19 +1,20 @@
 //! Sine, cosine and tangent.
 
 ghost use Rattle.std.specs.Prelude.{◌≡◌, ◌+ℤ◌, ◌<◌, ◌≤◌, ◌≤ℤ◌, pos, unsigned_abs, slice_index};
+ghost use Rattle.tk_num.specs.Number.{one};
 ghost use Rattle.tk_num.specs.Angle.{degrees, sines, quarter_sine, half_sine, turn_sine, sine, cosine, tangent};
 
 use crate::arithmetic::div;
-use crate::{NumFault, Scaled};
+use crate::{NumFault, ONE, Scaled};
 
 /// One degree.
-const DEGREE: u32 = 65536;
+const DEGREE: u32 = ONE as u32;
 
 /// A quarter of a turn.
-const RIGHT_ANGLE: i64 = 90 * 65536;
+const RIGHT_ANGLE: i64 = 90 * ONE;
 
 /// A whole turn.
-const TURN: i64 = 360 * 65536;
+const TURN: i64 = 360 * ONE;
 
 /// The sines of 0 to 90 whole degrees, in 65536ths.
 static SINES: [u32; 91] = [
@@ -39,7 +40,7 @@ fn table_sine(degrees: u32) -> u32
 fn quarter_sine_of(angle: u32) -> u32
     requires { angle ≤ degrees 90 }
     ensures value { result ≡ quarter_sine angle }
-    ensures within { result ≤ 65536 }
+    ensures within { result ≤ one }
 {
     let (whole, part) = (angle / DEGREE, angle % DEGREE);
     let low = table_sine(whole);
@@ -47,14 +48,14 @@ fn quarter_sine_of(angle: u32) -> u32
         return low;
     }
     let rise = table_sine(whole + 1) - low;
-    low + rise * part / 65536
+    low + rise * part / DEGREE
 }
 
 /// The sine up to 180 degrees.
 fn half_sine_of(angle: u32) -> u32
     requires { angle ≤ degrees 180 }
     ensures value { result ≡ half_sine angle }
-    ensures within { result ≤ 65536 }
+    ensures within { result ≤ one }
 {
     if angle <= 90 * DEGREE {
         quarter_sine_of(angle)
@@ -67,7 +68,7 @@ fn half_sine_of(angle: u32) -> u32
 fn turn_sine_of(angle: u32) -> i64
     requires { angle < degrees 360 }
     ensures value { result ≡ turn_sine angle }
-    ensures within { unsigned_abs result ≤ 65536 }
+    ensures within { unsigned_abs result ≤ one }
 {
     if angle < 180 * DEGREE {
         i64::from(half_sine_of(angle))
@@ -80,7 +81,7 @@ fn turn_sine_of(angle: u32) -> i64
 fn sine_of(angle: i64) -> Scaled
     requires { unsigned_abs angle ≤ 1099511627776 }
     ensures value { result ≡ sine angle }
-    ensures within { unsigned_abs result ≤ 65536 }
+    ensures within { unsigned_abs result ≤ one }
 {
     let reduced = angle.rem_euclid(TURN);
     Scaled {
@@ -91,7 +92,7 @@ fn sine_of(angle: i64) -> Scaled
 /// The sine of an angle in degrees: from a table of whole degrees, on a straight line between two.
 pub fn sin(degrees: Scaled) -> Scaled
     ensures value { result ≡ sine degrees }
-    ensures within { unsigned_abs result ≤ 65536 }
+    ensures within { unsigned_abs result ≤ one }
 {
     sine_of(degrees.sp())
 }
@@ -99,7 +100,7 @@ pub fn sin(degrees: Scaled) -> Scaled
 /// The cosine of an angle in degrees: the sine of the angle and 90 degrees.
 pub fn cos(degrees: Scaled) -> Scaled
     ensures value { result ≡ cosine degrees }
-    ensures within { unsigned_abs result ≤ 65536 }
+    ensures within { unsigned_abs result ≤ one }
 {
     sine_of(degrees.sp() + RIGHT_ANGLE)
 }

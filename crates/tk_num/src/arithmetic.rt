@@ -1,9 +1,9 @@
 //! Sums, products, quotients and roots of scaled numbers.
 
 ghost use Rattle.std.specs.Prelude.{◌≡◌, ℕ, ◌+ℤ◌, ◌-ℤ◌, ◌*◌, ◌≤◌, int_div, unsigned_abs, IfOk};
-ghost use Rattle.tk_num.specs.Number.{scaled, product, quotient, square_root, floor_root, IsFloorRoot};
+ghost use Rattle.tk_num.specs.Number.{one, scaled, product, quotient, square_root, floor_root, IsFloorRoot};
 
-use crate::{NumFault, Scaled};
+use crate::{NumFault, ONE, Scaled};
 
 /// The number of `sp` 65536ths; TooLarge where it is out of range.
 pub(crate) fn in_range(sp: i64) -> Result<Scaled, NumFault>
@@ -40,7 +40,7 @@ pub fn sub(x: Scaled, y: Scaled) -> Result<Scaled, NumFault>
 pub fn mul(x: Scaled, y: Scaled) -> Result<Scaled, NumFault>
     ensures { result ≡ scaled (product x y) }
 {
-    in_range(x.sp() * y.sp() / 65536)
+    in_range(x.sp() * y.sp() / ONE)
 }
 
 /// The quotient, cut toward zero; DivZero where `y` is 0, else TooLarge where it is out of range.
@@ -50,18 +50,18 @@ pub fn div(x: Scaled, y: Scaled) -> Result<Scaled, NumFault>
     if y.sp() == 0 {
         return Err(NumFault::DivZero);
     }
-    in_range(cut(x.sp() * 65536, y.sp()))
+    in_range(cut(x.sp() * ONE, y.sp()))
 }
 
 /// The square root, cut downward; Domain where `x` is negative.
 pub fn root(x: Scaled) -> Result<Scaled, NumFault>
     ensures gives { result ≡ square_root x }
-    ensures floor { IfOk result (λ r. IsFloorRoot (unsigned_abs x * 65536) (unsigned_abs r)) }
+    ensures floor { IfOk result (λ r. IsFloorRoot (unsigned_abs x * one) (unsigned_abs r)) }
 {
     if x.sp() < 0 {
         return Err(NumFault::Domain);
     }
-    in_range((x.sp() as u64 * 65536).isqrt() as i64)
+    in_range((x.sp() as u64 * ONE as u64).isqrt() as i64)
 }
 
 /// The root that is cut downward is the greatest whole number whose square is at most the number.

@@ -5,8 +5,10 @@ ghost use Rattle.std.specs.List.{list_all, position};
 ghost use Rattle.std.specs.Char.{is_ascii_digit};
 ghost use Rattle.std.specs.Str.Parse.{digits_value};
 ghost use Rattle.std.specs.Option.{SomeIff};
-ghost use Rattle.tk_num.specs.Number.{is_point, nearest_65536th, fraction_of, whole_digits, part_digits, decimal_parts};
+ghost use Rattle.tk_num.specs.Number.{one, is_point, nearest_65536th, fraction_of, whole_digits, part_digits, decimal_parts};
 ghost use Rattle.tk_num.specs.Number.{IsWhole, IsFraction};
+
+use crate::ONE;
 
 /// The greatest whole part.
 const MOST_WHOLE: u64 = 1_073_741_823;
@@ -33,7 +35,8 @@ static POWERS: [u64; 13] = [
 
 /// The number that digits write, where it is at most the greatest whole part.
 fn whole_number(digits: &[u8]) -> Option<u64>
-    ensures { SomeIff result ((list_all is_ascii_digit digits.now ≡ true) × (digits_value 10 digits.now ≤ 1073741823))
+    ensures { SomeIff result
+        ((list_all is_ascii_digit digits.now ≡ true) × (digits_value 10 digits.now ≤ 1073741823))
         (digits_value 10 digits.now) }
 {
     let mut value: u64 = 0;
@@ -104,7 +107,7 @@ pub fn nearest_65536th(count: u32, digits: u64) -> u64
 fn fraction(digits: &[u8]) -> u64
     requires { list_all is_ascii_digit digits.now ≡ true }
     ensures value { result ≡ fraction_of digits.now }
-    ensures most { result ≤ 65536 }
+    ensures most { result ≤ one }
 {
     let count = digits.len().min(MOST_PLACES);
     nearest_65536th(count as u32, short_number(&digits[..count]))
@@ -152,9 +155,9 @@ pub fn read_decimal(text: &[u8]) -> Option<(i64, i64)>
         return None;
     }
     let part = fraction(back);
-    let carried = whole + part / 65536;
+    let carried = whole + part / ONE as u64;
     if carried > MOST_WHOLE {
         return None;
     }
-    Some((carried as i64, (part % 65536) as i64))
+    Some((carried as i64, (part % ONE as u64) as i64))
 }

@@ -18,6 +18,9 @@ use std::marker::Model;
 pub use text::{Digits, print, print_tex, push_text, text_is_unique, text_reads_back};
 pub use unit::{Unit, with_unit};
 
+/// One whole, in 65536ths.
+pub const ONE: i64 = 65_536;
+
 /// The greatest absolute value of a `Scaled`.
 const MOST: i64 = 1_073_741_823;
 

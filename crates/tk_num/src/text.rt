@@ -3,23 +3,25 @@
 ghost use Rattle.std.specs.Prelude.{◌≡◌, ℤ, pos, List, ℕ, ◌+◌, ◌-◌, ◌/◌, ◌%◌, ◌^◌, unsigned_abs, decimal, ◌<◌, ◌≤◌};
 ghost use Rattle.std.specs.Prelude.{◌++◌, ◌∷◌, if◌then◌else◌, nat_lt, length, IsUtf8};
 ghost use Rattle.arrayvec.specs.ArrayVec.{array_vec_len};
-ghost use Rattle.tk_num.specs.Number.{decimal_parts};
+ghost use Rattle.tk_num.specs.Number.{one, decimal_parts};
 ghost use Rattle.tk_num.specs.Text.{unsigned_text, places, IsTextOf, IsPointedTextOf, text_of, sign_text, pointed_text};
 ghost use Rattle.tk_num.specs.Text.{part_text};
 
+use crate::ONE;
 use arrayvec::{ArrayString, ArrayVec};
+use itoa::Buffer;
 
 /// The characters of numbers: room for two, and for what stands before and between them.
 pub type Digits = ArrayVec<u8, 48>;
 
-/// One whole, in 65536ths.
-const UNITY: u32 = 65536;
+/// One whole, in 32 bits.
+const UNITY: u32 = ONE as u32;
 
 /// The rest from which the next digit is taken; the fifth digit, which is the last, is rounded.
 fn rounded(rest: u32, delta: u32) -> u32
-    requires early { 65536 < delta → 50000 ≤ rest }
+    requires early { one < delta → 50000 ≤ rest }
     requires small { rest < 655360 }
-    ensures { result ≡ (if nat_lt 65536 delta then rest + 32768 - 50000 else rest) }
+    ensures { result ≡ (if nat_lt one delta then rest + 32768 - 50000 else rest) }
 {
     if delta > UNITY {
         rest + 32_768 - 50_000
@@ -33,7 +35,7 @@ fn rounded(rest: u32, delta: u32) -> u32
 /// This is the loop of TeX's `print_scaled` (Knuth, TeX: The Program, section 103).
 fn push_part(out: &mut Digits, fraction: u32)
     requires room { array_vec_len out.old + 5 ≤ 48 }
-    requires fraction { fraction < 65536 }
+    requires fraction { fraction < one }
     ensures text { out.new.items ≡ out.old.items ++ part_text fraction }
     ensures short { array_vec_len out.new ≤ array_vec_len out.old + 5 }
 {
@@ -56,12 +58,10 @@ fn push_whole(out: &mut Digits, whole: u64)
     ensures text { out.new.items ≡ out.old.items ++ decimal whole }
     ensures length { array_vec_len out.new ≡ array_vec_len out.old + length (decimal whole) }
 {
-    if whole < 10 {
-        out.push(b'0' + whole as u8);
-        return;
+    match out.try_extend_from_slice(Buffer::new().format(whole).as_bytes()) {
+        Ok(()) => {}
+        Err(_) => unreachable!(),
     }
-    push_whole(out, whole / 10);
-    out.push(b'0' + (whole % 10) as u8);
 }
 
 /// Puts a minus before a negative number at the end.
@@ -78,19 +78,20 @@ fn push_sign(out: &mut Digits, sp: i64)
 /// Puts the sign and the whole part of a number at the end.
 fn push_front(out: &mut Digits, sp: i64)
     requires room { array_vec_len out.old + 16 ≤ 48 }
-    ensures text { out.new.items ≡ out.old.items ++ (sign_text sp ++ decimal (unsigned_abs sp / 65536)) }
+    ensures text { out.new.items
+        ≡ out.old.items ++ (sign_text sp ++ decimal (unsigned_abs sp / one)) }
     ensures short { array_vec_len out.new ≤ array_vec_len out.old + 16 }
 {
     push_sign(out, sp);
-    push_whole(out, sp.unsigned_abs() / 65536);
+    push_whole(out, sp.unsigned_abs() / ONE as u64);
 }
 
 /// The 65536ths of the absolute value that come to no whole.
 fn part_of_size(sp: i64) -> u32
-    ensures part { result ≡ unsigned_abs sp % 65536 }
-    ensures small { result < 65536 }
+    ensures part { result ≡ unsigned_abs sp % one }
+    ensures small { result < one }
 {
-    (sp.unsigned_abs() % 65536) as u32
+    (sp.unsigned_abs() % ONE as u64) as u32
 }
 
 /// Puts the text of a number at the end, which is what `print` gives.
@@ -143,9 +144,10 @@ pub fn print_tex(sp: i64) -> ArrayString<24>
 
 /// There is one text of a number, and one that TeX prints.
 pub fn text_is_unique()
-    ensures text { (sp : ℤ) → (text : List ℕ) → unsigned_abs sp < 2 ^ 64 → IsTextOf sp text → text ≡ text_of sp }
-    ensures pointed { (sp : ℤ) → (text : List ℕ) → unsigned_abs sp < 2 ^ 64 → IsPointedTextOf sp text
-        → text ≡ pointed_text sp }
+    ensures text { (sp : ℤ) → (text : List ℕ) → unsigned_abs sp < 2 ^ 64
+        → IsTextOf sp text → text ≡ text_of sp }
+    ensures pointed { (sp : ℤ) → (text : List ℕ) → unsigned_abs sp < 2 ^ 64
+        → IsPointedTextOf sp text → text ≡ pointed_text sp }
 {}
 
 /// The text of a number without its sign reads back as its size, and no text with fewer digits after the
@@ -153,8 +155,8 @@ pub fn text_is_unique()
 #[tactic(auto, using(crate::proofs::Back::text_back, crate::proofs::Back::no_shorter))]
 pub fn text_reads_back()
     ensures back { (sp : ℤ) → unsigned_abs sp ≤ 4294967295 → decimal_parts (unsigned_text sp)
-        ≡ Some (pos (unsigned_abs sp / 65536), pos (unsigned_abs sp % 65536)) }
+        ≡ Some (pos (unsigned_abs sp / one), pos (unsigned_abs sp % one)) }
     ensures shortest { (sp : ℤ) → unsigned_abs sp ≤ 4294967295 → (text : List ℕ)
-        → decimal_parts text ≡ Some (pos (unsigned_abs sp / 65536), pos (unsigned_abs sp % 65536))
+        → decimal_parts text ≡ Some (pos (unsigned_abs sp / one), pos (unsigned_abs sp % one))
         → places (unsigned_text sp) ≤ places text }
 {}

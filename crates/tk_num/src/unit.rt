@@ -1,11 +1,11 @@
 //! Lengths in units.
 
 ghost use Rattle.std.specs.Prelude.{◌≡◌, ◌+◌, ◌*◌, ◌<◌, ◌≤◌, pos, unsigned_abs};
-ghost use Rattle.tk_num.specs.Number.{IsWhole, IsFraction, product, scaled};
+ghost use Rattle.tk_num.specs.Number.{one, IsWhole, IsFraction, product, scaled};
 ghost use Rattle.tk_num.specs.Unit.{converted, length_in};
 
 use crate::arithmetic::{cut, in_range};
-use crate::{NumFault, Scaled};
+use crate::{NumFault, ONE, Scaled};
 
 /// The units of a length: those of TeX, with scaled points and the two units of a font.
 #[derive(Clone, Copy, PartialEq, Eq)]
@@ -29,31 +29,31 @@ pub enum Unit {
 /// Program, section 458.
 fn in_points(whole: u64, frac: u64, numerator: u64, denominator: u64) -> i64
     requires whole { whole ≤ 1073741823 }
-    requires frac { frac < 65536 }
+    requires frac { frac < one }
     requires numerator { numerator ≤ 14856 }
     requires some { 1 ≤ denominator }
     requires denominator { denominator ≤ 7200 }
-    ensures { result ≡ pos (converted numerator denominator (65536 * whole + frac)) }
+    ensures { result ≡ pos (converted numerator denominator (one * whole + frac)) }
 {
     let product = whole * numerator;
-    let parts = (numerator * frac + 65536 * (product % denominator)) / denominator;
-    (65536 * (product / denominator) + parts) as i64
+    let parts = (numerator * frac + ONE as u64 * (product % denominator)) / denominator;
+    (ONE as u64 * (product / denominator) + parts) as i64
 }
 
 /// A length in a unit of a font, in 65536ths of a point, cut toward zero.
 fn in_font_unit(whole: i64, frac: i64, unit: Scaled) -> i64
     requires whole { IsWhole whole }
     requires frac { IsFraction frac }
-    ensures { result ≡ product (pos (65536 * unsigned_abs whole + unsigned_abs frac)) unit }
+    ensures { result ≡ product (pos (one * unsigned_abs whole + unsigned_abs frac)) unit }
 {
-    whole * unit.sp() + cut(frac * unit.sp(), 65536)
+    whole * unit.sp() + cut(frac * unit.sp(), ONE)
 }
 
 /// The length of `whole` and `frac` 65536ths in a unit, in 65536ths of a point.
 fn length_in_unit(whole: i64, frac: i64, unit: Unit, em: Scaled, ex: Scaled) -> i64
     requires whole { IsWhole whole }
     requires frac { IsFraction frac }
-    ensures { result ≡ length_in unit (65536 * unsigned_abs whole + unsigned_abs frac) em ex }
+    ensures { result ≡ length_in unit (one * unsigned_abs whole + unsigned_abs frac) em ex }
 {
     let (points, parts) = (whole as u64, frac as u64);
     match unit {
@@ -84,7 +84,8 @@ pub fn with_unit(
 ) -> Result<Scaled, NumFault>
     requires whole { IsWhole whole }
     requires frac { IsFraction frac }
-    ensures { result ≡ scaled (length_in unit (65536 * unsigned_abs whole + unsigned_abs frac) em ex) }
+    ensures { result
+        ≡ scaled (length_in unit (one * unsigned_abs whole + unsigned_abs frac) em ex) }
 {
     in_range(length_in_unit(whole, frac, unit, em, ex))
 }

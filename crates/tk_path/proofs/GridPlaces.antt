@@ -10,7 +10,7 @@ use Rattle.tk_item.specs.declared.Point.{Point}
 use Rattle.tk_item.specs.declared.Seg.{Seg}
 use Rattle.tk_affine.specs.declared.AffFault.{AffFault}
 use Rattle.tk_affine.specs.declared.Matrix.{Matrix}
-use Rattle.tk_look.specs.Graphics.{answer_at}
+use Rattle.tk_affine.specs.Faults.{answer_at}
 use Rattle.tk_geom.specs.GridLines.{GridLine, line_pieces, corners, grid_lines}
 use Rattle.tk_geom.specs.Grids.{Grid, line_drawn, lines_drawn, grid_pieces}
 use Rattle.tk_keys.proofs.Standing.{then_at, if_at, both_at, only_fault}

@@ -13,7 +13,7 @@ use Rattle.tk_token.proofs.Answering.{then_holds}
 use Rattle.tk_expand.specs.Expand.{pay}
 use Rattle.tk_affine.specs.declared.AffFault.{AffFault}
 use Rattle.tk_affine.specs.declared.Matrix.{Matrix}
-use Rattle.tk_look.specs.Graphics.{answer_at}
+use Rattle.tk_affine.specs.Faults.{answer_at}
 use Rattle.tk_geom.specs.GridLines.{GridLine, line_pieces, corners, grid_lines}
 use Rattle.tk_geom.specs.Grids.{Grid, grid_of, grid_behind, grid_appended, line_drawn, lines_drawn, grid_pieces}
 use Rattle.tk_keys.proofs.Standing.{any_value}

@@ -15,7 +15,7 @@ use Rattle.tk_expand.specs.Unread.{unread}
 use Rattle.tk_expand.proofs.NextPlaces.{place_at}
 use Rattle.tk_expand.proofs.Places.{StandAt, Stands, StreamAt, full_at}
 use Rattle.tk_affine.specs.declared.AffFault.{AffFault}
-use Rattle.tk_look.specs.Graphics.{answer_at}
+use Rattle.tk_affine.specs.Faults.{answer_at}
 use Rattle.tk_coord.specs.declared.corners.CornerSign.{CornerSign}
 use Rattle.tk_coord.specs.declared.corners.CornerSign.TheVariants.{HorizontalFirst, VerticalFirst}
 use Rattle.tk_coord.specs.Coordinates.{corner_between}

@@ -2,13 +2,13 @@
 use Rattle.std.specs.Prelude.{◌≡◌, List, [], ◌∷◌, ◌++◌, Option, None, Some, Result, Ok, Err, ℤ, ℕ, IfOk, Bool, true, is_ok, pos, neg_ℤ}
 use Rattle.std.specs.Result.{result_unwrap_or}
 use Rattle.std.proofs.Common.{refl, subst, sym, ap, ◌∙◌, true≢false}
+use Rattle.tk_token.specs.Answers.{◌>>=◌}
 use Rattle.tk_item.specs.declared.Point.{Point}
 use Rattle.tk_item.specs.declared.Seg.{Seg}
 use Rattle.tk_item.specs.declared.Seg.TheVariants.{Move, Line, Curve, Close}
 use Rattle.tk_svg.specs.Fitting.{BeginsWithMove}
 use Rattle.tk_affine.specs.declared.AffFault.{AffFault}
 use Rattle.tk_affine.specs.declared.Matrix.{Matrix}
-use Rattle.tk_affine.specs.Steps.{◌>>=◌}
 use Rattle.tk_geom.specs.Circles.{control_length, vector_end, curve_round, circle_pieces}
 use Rattle.tk_affine.specs.Inverses.{corner_of}
 use Rattle.tk_geom.specs.Rectangles.{rectangle_pieces}

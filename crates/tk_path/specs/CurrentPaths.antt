@@ -2,12 +2,12 @@
 use Rattle.std.specs.Prelude.{ℤ, Bool, true, if◌then◌else◌, List, [], ◌∷◌, ◌++◌, Option, None, Some, unwrap_or, Result}
 use Rattle.std.specs.Prelude.{Ok, slice_get, length, ◌-◌}
 use Rattle.std.specs.Ordering.{int_eq}
+use Rattle.tk_token.specs.Answers.{◌>>=◌}
 use Rattle.tk_item.specs.declared.Point.{Point}
 use Rattle.tk_item.specs.declared.Seg.{Seg}
 use Rattle.tk_item.specs.declared.Seg.TheVariants.{Move, Curve, Close}
 use Rattle.tk_affine.specs.declared.AffFault.{AffFault}
 use Rattle.tk_affine.specs.declared.Matrix.{Matrix}
-use Rattle.tk_affine.specs.Steps.{◌>>=◌}
 use Rattle.tk_geom.specs.Arcs.{arc_pieces}
 use Rattle.tk_geom.specs.Circles.{circle_pieces}
 use Rattle.tk_geom.specs.Rectangles.{rectangle_pieces}

@@ -12,7 +12,7 @@ use Rattle.tk_token.specs.Kinds.{is_char}
 use Rattle.tk_expand.specs.Expand.{stream, full}
 use Rattle.tk_expand.specs.Reading.{is_there}
 use Rattle.tk_expand.specs.Unread.{unread}
-use Rattle.tk_look.specs.Graphics.{answer_at}
+use Rattle.tk_affine.specs.Faults.{answer_at}
 use Rattle.tk_coord.specs.declared.corners.CornerSign.{CornerSign}
 use Rattle.tk_coord.specs.declared.corners.CornerSign.TheVariants.{HorizontalFirst, VerticalFirst}
 use Rattle.tk_coord.specs.Coordinates.{corner_between}

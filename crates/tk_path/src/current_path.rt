@@ -3,7 +3,7 @@
 ghost use Rattle.std.specs.Prelude.{◌≡◌, ◌∷◌, [], None, Ok, OnOk, IfOk, MatchOption, IfSome, slice_get, length, ◌-◌};
 ghost use Rattle.tk_svg.specs.Fitting.{BeginsWithMove};
 ghost use Rattle.tk_token.specs.Refusals.{Gives};
-ghost use Rattle.tk_affine.specs.Steps.{◌>>=◌ as ◌followed_by◌};
+ghost use Rattle.tk_token.specs.Answers.{◌>>=◌ as ◌followed_by◌};
 ghost use Rattle.tk_geom.specs.Arcs.{arc_pieces};
 ghost use Rattle.tk_path.specs.CurrentPaths as spec;
 ghost use Rattle.tk_path.specs.Meshes.{meshed, mesh_drawn};

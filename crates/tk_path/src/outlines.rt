@@ -11,8 +11,8 @@ use crate::coordinate::written_text;
 use crate::current_path::{CurrentPath, Goal};
 use crate::drawer::{Drawer, misfit};
 use crate::measures::{ArcMeasures, ArcText, Measures, arc_in, radii_in};
+use tk_affine::answer_at;
 use tk_expand::{Input, is_there};
-use tk_look::answer_at;
 use tk_token::{Refusal, Tok};
 
 impl Drawer {

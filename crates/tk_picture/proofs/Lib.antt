@@ -1,4 +1,3 @@
-pub mod Closers
 pub mod CommandMoves
 pub mod Drawing
 pub mod Evaluating

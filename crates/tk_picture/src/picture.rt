@@ -22,13 +22,13 @@ use tk_expand::Input;
 use tk_expr::FontUnits;
 use tk_item::{Drawing, Frame, Items, Text};
 use tk_keys::State;
-use tk_num::Scaled;
+use tk_num::{ONE, Scaled};
 use tk_path::{Drawer, Style};
 use tk_store::Body;
 use tk_token::{Code, Fault, Kind, Lexed, Refusal, Tok, lex};
 
 /// A font size of 10pt.
-const FONT_SIZE: i64 = 10 * 65_536;
+const FONT_SIZE: i64 = 10 * ONE;
 
 /// An em of that font, in scaled points.
 const EM: i64 = 655_360;

@@ -15,7 +15,8 @@ use Rattle.tk_item.specs.declared.Fill.{Fill}
 use Rattle.tk_item.specs.declared.Stroke.{Stroke}
 use Rattle.tk_characters.specs.Characters.{hash}
 use Rattle.tk_characters.specs.Options.{◌and_then◌}
-use Rattle.tk_svg.specs.Scan.{Attribute, attribute, lone_number, scaled_of, numbers_of, word_meaning}
+use Rattle.tk_characters.specs.Words.{word_meaning}
+use Rattle.tk_svg.specs.Scan.{Attribute, attribute, lone_number, scaled_of, numbers_of}
 
 -- the names of these attributes
 abbrev pub paint_names : List (List ℕ)

@@ -189,9 +189,3 @@ numbers_of (suc n) value =
     (behind_separator x.1 and_then λ next.
     numbers_of n next and_then λ xs.
     Some (x.0 ∷ xs))
-
--- what a word of a table stands for
-abbrev pub word_meaning : {A : Type 0} → List (List ℕ × A) → List ℕ → Option A
-word_meaning [] value = None
-word_meaning (entry ∷ entries) value =
-    if bytes_eq value entry.0 then Some entry.1 else word_meaning entries value

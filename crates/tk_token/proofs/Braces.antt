@@ -6,15 +6,13 @@ use Rattle.std.specs.Str.{chars}
 use Rattle.std.proofs.Math.Seq.{drop-cons}
 use Rattle.std.proofs.lemmas.List.{reverse-append, drop_all}
 use Rattle.tk_token.specs.declared.Code.TheVariants.{Brace}
-use Rattle.tk_token.specs.declared.Refusal.{Refusal}
-use Rattle.tk_token.specs.declared.Refusal.TheVariants.{OutOfMemory, Fault as Refused}
+use Rattle.tk_token.specs.declared.Fault.{Fault}
 use Rattle.tk_token.specs.declared.Tok.{Tok}
 use Rattle.tk_token.specs.Answers.{Answer, ◌>>=◌, fault}
-use Rattle.tk_token.specs.Refusals.{Fails, OnFault}
 use Rattle.tk_token.specs.Token.{Token, token_of, sign_of}
 use Rattle.tk_token.specs.Cutting.{Tokens}
 use Rattle.tk_token.specs.Faults.{after_mark, open_after, open_after_all, none_open, balanced, text_fault, Lexes, cut}
-use Rattle.tk_token.proofs.Answering.{fails_then, fails_as, then_is}
+use Rattle.tk_token.proofs.Answering.{then_is}
 
 -- the last of a list is the first of it the other way round
 pub last_reversed : (xs : List ℕ) (x : ℕ) → Some x ≡ slice_get xs (length xs - 1) → (others : List ℕ) × (reverse xs ≡ x ∷ others)
@@ -50,15 +48,12 @@ module _ (names : List (List ℕ)) (toks : List Tok) (i : ℕ) (d : Tok) (before
       (map (token_of names) (drop (i + 1) toks))) after goes
 
   -- or is at fault
-  pub one_fails : (e : Refusal) → open_after_all [] (map (token_of names) toks) ≡ open_after_all before (map (token_of names) (drop i toks))
-      → Fails e (open_after before (sign_of names tok.kind) tok.at) → Fails e (balanced (map (token_of names) toks))
-  one_fails e told h =
-      let here : Answer (List ℕ) = open_after before (sign_of names tok.kind) tok.at >>= λ (after : List ℕ). open_after_all after
-      (map (token_of names) (drop (i + 1) toks)) in
+  pub one_fails : (f : Fault) → open_after_all [] (map (token_of names) toks) ≡ open_after_all before (map (token_of names) (drop i toks))
+      → open_after before (sign_of names tok.kind) tok.at ≡ Err f → balanced (map (token_of names) toks) ≡ Err f
+  one_fails f told fails =
       let all : List Token = map (token_of names) toks in
-      fails_as e (balanced all) (here >>= none_open all) (ap (λ (m : Answer (List ℕ)). m >>= none_open all) (told_here told))
-      (fails_then e here (none_open all) (fails_then e (open_after before (sign_of names tok.kind) tok.at) (λ (after : List ℕ). open_after_all after
-      (map (token_of names) (drop (i + 1) toks))) h))
+      let on : Answer (List ℕ) → Answer (List ℕ) = λ m. m >>= λ (after : List ℕ). open_after_all after (map (token_of names) (drop (i + 1) toks)) in
+      ap (λ (m : Answer (List ℕ)). m >>= none_open all) (told_here told ∙ ap on fails)
 
 -- a brace that is left open
 pub left_open : (names : List (List ℕ)) (toks : List Tok) (i : ℕ) (open_at : List ℕ) (at : ℕ) → length toks ≤ i
@@ -78,6 +73,5 @@ module _ (source text : List ℕ) (toks : List Token) (is : text ≡ source) (no
   pub lexes_as : (answer : Answer (List Token)) → balanced toks ≡ answer → Lexes source answer
   lexes_as answer so = subst (Lexes source) so (cut none (subst (λ (s : List ℕ). Tokens (length s) (after_mark (chars s)) toks) is t))
 
-  pub lexes_fault : (e : Refusal) → Fails e (balanced toks) → OnFault e (λ f. Lexes source (Err f))
-  lexes_fault (Refused f) h = lexes_as (Err f) h
-  lexes_fault OutOfMemory h = tt
+  pub lexes_fault : (f : Fault) → balanced toks ≡ Err f → Lexes source (Err f)
+  lexes_fault f h = lexes_as (Err f) h

@@ -1,7 +1,7 @@
 -- The pieces in front.
 use Rattle.std.proofs.Common.{◌≡◌, ◌≢◌, ℕ, true, false, List, [], ◌∷◌, Option, Some, sym, ap, subst, ◌∙◌}
 use Rattle.std.specs.Prelude.{unwrap_or}
-use Rattle.tk_token.specs.Token.{Sign, A_word, A_symbol, A_space}
+use Rattle.tk_token.specs.Token.{TokenSign, A_word, A_symbol, A_space}
 use Rattle.tk_token.specs.Cutting.{is_blank, is_letter, letters_of, after_word, after_gap, makes_space, single, Tokens, gap, word, control_space}
 use Rattle.tk_token.specs.Cutting.{symbol, other}
 use Rattle.tk_token.specs.Pieces.{CutsOne}
@@ -9,8 +9,8 @@ use Rattle.tk_token.specs.Pieces.{CutsOne}
 pub gap_cut : (c : ℕ) (cs rest : List ℕ) → is_blank c ≡ true → rest ≡ after_gap cs → CutsOne (c ∷ cs) A_space rest
 gap_cut c cs rest b is = record { cut = λ n ts t. gap b (subst (λ (r : List ℕ). Tokens n r ts) is t) }
 
-pub single_cut : (c : ℕ) (cs : List ℕ) (sign : Sign) → is_blank c ≡ false → c ≢ 37 → c ≢ 92 → sign ≡ single c → CutsOne (c ∷ cs) sign cs
-single_cut c cs sign b ne ne' is = subst (λ (s : Sign). CutsOne (c ∷ cs) s cs) (sym is) (record { cut = λ n ts t. other b ne ne' t })
+pub single_cut : (c : ℕ) (cs : List ℕ) (sign : TokenSign) → is_blank c ≡ false → c ≢ 37 → c ≢ 92 → sign ≡ single c → CutsOne (c ∷ cs) sign cs
+single_cut c cs sign b ne ne' is = subst (λ (s : TokenSign). CutsOne (c ∷ cs) s cs) (sym is) (record { cut = λ n ts t. other b ne ne' t })
 
 pub control_space_cut : (cs rest : List ℕ) → makes_space cs ≡ true → rest ≡ after_gap cs → CutsOne (92 ∷ cs) (A_symbol 32) rest
 control_space_cut cs rest e is = record { cut = λ n ts t. control_space e (subst (λ (r : List ℕ). Tokens n r ts) is t) }

@@ -11,7 +11,7 @@ use Rattle.std.proofs.lemmas.Str.{IsUtf8-nil, IsUtf8-from_is_utf8, utf8_valid_le
 use Rattle.tk_token.specs.declared.Code.TheVariants.{NotUtf8, BadChar, TooDeep}
 use Rattle.tk_token.specs.declared.Fault.{Fault}
 use Rattle.tk_token.specs.Answers.{Answer, ◌>>=◌, fault}
-use Rattle.tk_token.specs.Token.{Sign, A_char, A_word, A_symbol, Opens, Closes, A_param, An_arg, A_space, Token}
+use Rattle.tk_token.specs.Token.{TokenSign, A_char, A_word, A_symbol, Opens, Closes, A_param, An_arg, A_space, Token}
 use Rattle.tk_token.specs.Cutting.{byte_count}
 use Rattle.tk_token.specs.Faults.{is_refused, first_place, fault_at, text_fault, open_after, open_after_all, none_open, balanced, Lexes, refused, cut}
 use Rattle.tk_token.proofs.Refused.{text_without_fault}
@@ -32,7 +32,7 @@ module _ (P : ℕ → Type 0) where
   opened true open_at at h k = k
   opened false open_at at h k = (k, h)
 
-  after_one : (open_at : List ℕ) (sign : Sign) (at : ℕ) → AllByRecursion P open_at → P at → Stands (open_after open_at sign at)
+  after_one : (open_at : List ℕ) (sign : TokenSign) (at : ℕ) → AllByRecursion P open_at → P at → Stands (open_after open_at sign at)
   after_one open_at Opens at h k = opened (length open_at == 256) open_at at h k
   after_one [] Closes at h k = k
   after_one (inner ∷ outer) Closes at h k = h.1

@@ -6,7 +6,7 @@ use Rattle.std.proofs.lemmas.List.{length-append, append-nil, map-append}
 use Rattle.tk_token.specs.declared.Tok.{Tok}
 use Rattle.tk_token.specs.declared.Kind.{Kind}
 use Rattle.tk_token.specs.declared.Kind.TheVariants.{Char, Word, Symbol, Open, Close, Param, Arg, Space}
-use Rattle.tk_token.specs.Token.{Sign, Token, sign_of, token_of, IsWordIn, Extends, A_word}
+use Rattle.tk_token.specs.Token.{TokenSign, Token, sign_of, token_of, IsWordIn, Extends, A_word}
 use Rattle.std.specs.Str.{chars, IsUtf8}
 use Rattle.tk_token.specs.Cutting.{token_at, after_comment, Tokens, ends, comment}
 use Rattle.tk_token.specs.Pieces.{CutsOne}
@@ -32,7 +32,7 @@ sign_same names words Space h = refl
 tokens_same : (names words : List (List ℕ)) (toks : List Tok) → AllByRecursion (λ t. IsWordIn names t.kind) toks
     → map (token_of (names ++ words)) toks ≡ map (token_of names) toks
 tokens_same names words [] h = refl
-tokens_same names words (t ∷ ts) h = ap (λ (s : Sign). record { sign = s; at = t.at } ∷ map (token_of (names ++ words)) ts)
+tokens_same names words (t ∷ ts) h = ap (λ (s : TokenSign). record { sign = s; at = t.at } ∷ map (token_of (names ++ words)) ts)
     (sign_same names words t.kind h.0) ∙ ap (λ (r : List Token). token_of names t ∷ r) (tokens_same names words ts h.1)
 
 word_kept : (names words : List (List ℕ)) (kind : Kind) → IsWordIn names kind → IsWordIn (names ++ words) kind

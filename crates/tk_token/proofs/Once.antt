@@ -7,7 +7,7 @@ use Rattle.std.specs.Str.{bytes_eq}
 use Rattle.std.specs.Cmp.Lexicographic.{bytes_decides}
 use Rattle.std.proofs.lemmas.Bool.{false≢true}
 use Rattle.std.proofs.Math.Nat.{eq-or-lt_of_le}
-use Rattle.tk_token.specs.Token.{Sign, A_char, A_word, A_symbol, Opens, Closes, A_param, An_arg, A_space, Token}
+use Rattle.tk_token.specs.Token.{TokenSign, A_char, A_word, A_symbol, Opens, Closes, A_param, An_arg, A_space, Token}
 use Rattle.tk_token.specs.Words.{has_word, with_word, with_sign, with_words, words_of, EachOnce}
 
 -- a word that isn't among words stands at none of their places
@@ -65,7 +65,7 @@ once_more words word once = by_test (has_word words word) refl
     by_test true e = once
     by_test false e = one_more words word once e
 
-with_sign_once : (words : List (List ℕ)) (sign : Sign) → EachOnce words → EachOnce (with_sign words sign)
+with_sign_once : (words : List (List ℕ)) (sign : TokenSign) → EachOnce words → EachOnce (with_sign words sign)
 with_sign_once words (A_word word) h = once_more words word h
 with_sign_once words (A_char c) h = h
 with_sign_once words (A_symbol c) h = h

@@ -1,17 +1,9 @@
 -- Runs of characters in front.
-use Rattle.std.proofs.Common.{◌≡◌, ℕ, suc, ◌+◌, Bool, true, false, not, ◌==◌, List, [], ◌∷◌, ◌++◌, drop, refl, sym, ap, ◌∙◌, arith, one-add}
+use Rattle.std.proofs.Common.{◌≡◌, ℕ, suc, ◌+◌, Bool, true, false, not, List, [], ◌∷◌, ◌++◌, drop, refl, sym, ap, ◌∙◌, arith}
 use Rattle.std.specs.List.{position_or_len, after_first}
 use Rattle.std.specs.Str.{NonePass}
 use Rattle.tk_token.specs.Places.{is_line_end}
-use Rattle.tk_token.specs.Cutting.{is_blank, after_while, gap_end}
-
--- a character in front that passes belongs to the run
-pub while_on : (p : ℕ → Bool) (c : ℕ) (cs : List ℕ) → p c ≡ true → after_while p (c ∷ cs) ≡ after_while p cs
-while_on p c cs e = rw (e, one-add) refl
-
--- one that doesn't pass ends it
-pub while_off : (p : ℕ → Bool) (c : ℕ) (cs : List ℕ) → p c ≡ false → after_while p (c ∷ cs) ≡ c ∷ cs
-while_off p c cs e = rw e refl
+use Rattle.tk_token.specs.Cutting.{gap_end}
 
 -- the first character that passes is the first, or comes later
 pub first_here : (p : ℕ → Bool) (c : ℕ) (cs : List ℕ) → p c ≡ true → after_first p (c ∷ cs) ≡ cs
@@ -41,12 +33,6 @@ gap_in_comment (c ∷ cs) = by_test (is_line_end c) refl (gap_in_comment cs)
     by_test true e h = ap (λ (b : Bool). gap_end (not b) cs) e ∙ ap (gap_end false) (sym (first_here is_line_end c cs e))
     by_test false e h = ap (λ (b : Bool). gap_end (not b) cs) e ∙ h ∙ ap (gap_end false) (sym (first_later is_line_end c cs e))
 
--- a gap goes on after a blank and after a comment, and ends at any other character
-pub gap_blank : (c : ℕ) (cs : List ℕ) → is_blank c ≡ true → gap_end false (c ∷ cs) ≡ gap_end false cs
-gap_blank c cs e = rw e refl
-
+-- a gap goes on after a comment
 pub gap_comment : (cs : List ℕ) → gap_end false (37 ∷ cs) ≡ gap_end false (after_first is_line_end cs)
 gap_comment cs = gap_in_comment cs
-
-pub gap_stops : (c : ℕ) (cs : List ℕ) → is_blank c ≡ false → (c == 37) ≡ false → gap_end false (c ∷ cs) ≡ c ∷ cs
-gap_stops c cs e f = rw (e, f) refl

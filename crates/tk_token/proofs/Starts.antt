@@ -13,7 +13,7 @@ use Rattle.tk_token.specs.declared.Kind.{Kind}
 use Rattle.tk_token.specs.declared.Kind.TheVariants.{Char, Word, Symbol, Open, Close, Param, Arg, Space}
 use Rattle.tk_token.specs.declared.Tok.{Tok}
 use Rattle.tk_token.specs.Places.{is_line_end}
-use Rattle.tk_token.specs.Token.{Sign, A_char, Opens, Closes, A_param, An_arg, Token, sign_of, token_of, IsNoArg}
+use Rattle.tk_token.specs.Token.{TokenSign, A_char, Opens, Closes, A_param, An_arg, Token, sign_of, token_of, IsNoArg}
 use Rattle.tk_token.specs.Cutting.{is_blank, is_indent, is_letter, after_comment, after_word, gap_end, byte_count, Tokens, ends, comment, gap, word}
 use Rattle.tk_token.specs.Cutting.{control_space, symbol, other}
 use Rattle.tk_token.specs.Faults.{after_mark}
@@ -110,7 +110,7 @@ module _ (text : List ℕ) (utf8 : IsUtf8 text) where
 -- ---- no token is the place of an argument
 
 -- no place of an argument
-abbrev pub IsPlain : Sign → Type 0
+abbrev pub IsPlain : TokenSign → Type 0
 IsPlain (An_arg n) = ⊥
 IsPlain _ = Unit {0}
 

@@ -9,7 +9,7 @@ Answer A = Result A Fault
 
 infixl 10 ◌>>=◌
 -- f of the value; a fault is passed on at once
-abbrev pub ◌>>=◌ : {A B : Type 0} → Result A Fault → (A → Result B Fault) → Result B Fault
+abbrev pub ◌>>=◌ : {A B E : Type 0} → Result A E → (A → Result B E) → Result B E
 (Ok x) >>= f = f x
 (Err e) >>= f = Err e
 

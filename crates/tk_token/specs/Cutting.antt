@@ -6,7 +6,7 @@ use Rattle.std.specs.List.{prefix_len, take_while, after_first}
 use Rattle.std.specs.Str.{encode_utf8_all}
 use Rattle.tk_characters.specs.Characters.{tab, line_feed, carriage_return, space, hash, percent, backslash, left_brace}
 use Rattle.tk_characters.specs.Characters.{right_brace}
-use Rattle.tk_token.specs.Token.{Sign, A_char, A_word, A_symbol, Opens, Closes, A_param, A_space, Token}
+use Rattle.tk_token.specs.Token.{TokenSign, A_char, A_word, A_symbol, Opens, Closes, A_param, A_space, Token}
 use Rattle.tk_token.specs.Places.{is_line_end}
 
 -- a space or a tab
@@ -60,7 +60,7 @@ makes_space [] = true
 makes_space (c ∷ cs) = is_indent c || c == line_feed || (c == carriage_return && begins_line_feed cs)
 
 -- the sign of a single character: `{`, `}`, `#`, or a character that stands for itself
-abbrev pub single : ℕ → Sign
+abbrev pub single : ℕ → TokenSign
 single c =
     if c == left_brace then Opens else
     (if c == right_brace then Closes else
@@ -71,7 +71,7 @@ abbrev pub byte_count : List ℕ → ℕ
 byte_count cs = length (encode_utf8_all cs)
 
 -- the token in front of the last characters of a source of n bytes: its place is how many bytes stand before it
-abbrev pub token_at : ℕ → List ℕ → Sign → Token
+abbrev pub token_at : ℕ → List ℕ → TokenSign → Token
 token_at n cs sign = record { sign = sign; at = n - byte_count cs }
 
 -- The tokens of the last characters of a source of n bytes.

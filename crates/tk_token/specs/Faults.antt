@@ -9,7 +9,7 @@ use Rattle.tk_token.specs.declared.Code.{Code}
 use Rattle.tk_token.specs.declared.Code.TheVariants.{NotUtf8, BadChar, Brace, TooDeep}
 use Rattle.tk_token.specs.declared.Fault.{Fault}
 use Rattle.tk_token.specs.Answers.{Answer, ◌>>=◌, fault}
-use Rattle.tk_token.specs.Token.{Sign, Opens, Closes, Token}
+use Rattle.tk_token.specs.Token.{TokenSign, Opens, Closes, Token}
 use Rattle.tk_token.specs.Cutting.{byte_count, Tokens}
 
 -- the characters that stand nowhere: U+0000 to U+0008, U+000B, U+000C, U+000E to U+001F, U+FFFE and U+FFFF
@@ -37,7 +37,7 @@ after_mark (c ∷ cs) = if c == 0xFEFF then cs else c ∷ cs
 
 -- the places of the braces that are open after a token, the innermost first; at most 256 are open, and a `}` closes the
 -- innermost
-abbrev pub open_after : List ℕ → Sign → ℕ → Answer (List ℕ)
+abbrev pub open_after : List ℕ → TokenSign → ℕ → Answer (List ℕ)
 open_after open_at Opens at = if length open_at == 256 then fault TooDeep at else Ok (at ∷ open_at)
 open_after [] Closes at = fault Brace at
 open_after (inner ∷ outer) Closes at = Ok outer

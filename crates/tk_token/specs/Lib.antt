@@ -11,4 +11,5 @@ pub mod Sought
 pub mod Spaces
 pub mod Texts
 pub mod Token
+pub mod Views
 pub mod Words

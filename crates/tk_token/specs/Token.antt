@@ -6,23 +6,23 @@ use Rattle.tk_token.specs.declared.Kind.TheVariants.{Char, Word, Symbol, Open, C
 use Rattle.tk_token.specs.declared.Tok.{Tok}
 
 -- what a token is, with a word as its bytes
-pub data Sign : Type 0 where
-  A_char : ℕ → Sign
-  A_word : List ℕ → Sign
-  A_symbol : ℕ → Sign
-  Opens : Sign
-  Closes : Sign
-  A_param : Sign
-  An_arg : ℕ → Sign
-  A_space : Sign
+pub data TokenSign : Type 0 where
+  A_char : ℕ → TokenSign
+  A_word : List ℕ → TokenSign
+  A_symbol : ℕ → TokenSign
+  Opens : TokenSign
+  Closes : TokenSign
+  A_param : TokenSign
+  An_arg : ℕ → TokenSign
+  A_space : TokenSign
 
 -- a sign, and the place of its first byte
 pub record Token : Type 0 where
-  pub sign : Sign
+  pub sign : TokenSign
   pub at : ℕ
 
 -- what a kind is, where words go by their numbers among the names
-abbrev pub sign_of : List (List ℕ) → Kind → Sign
+abbrev pub sign_of : List (List ℕ) → Kind → TokenSign
 sign_of names (Char c) = A_char c
 sign_of names (Word n) = A_word (unwrap_or (slice_get names n) [])
 sign_of names (Symbol c) = A_symbol c

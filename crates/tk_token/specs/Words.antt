@@ -5,7 +5,7 @@ use Rattle.std.specs.Str.{bytes_eq}
 use Rattle.tk_token.specs.declared.Kind.{Kind}
 use Rattle.tk_token.specs.declared.Kind.TheVariants.{Char, Word, Symbol, Open, Close, Param, Arg, Space}
 use Rattle.tk_token.specs.declared.Tok.{Tok}
-use Rattle.tk_token.specs.Token.{Sign, A_char, A_word, A_symbol, Opens, Closes, A_param, An_arg, A_space, Token}
+use Rattle.tk_token.specs.Token.{TokenSign, A_char, A_word, A_symbol, Opens, Closes, A_param, An_arg, A_space, Token}
 
 -- whether a word is in the list
 abbrev pub has_word : List (List ℕ) → List ℕ → Bool
@@ -22,7 +22,7 @@ EachOnce words = (m n : ℕ) → m < length words → n < length words → slice
 -- ---- the words of tokens
 
 -- the list with the word of a token in it, where it has one
-abbrev pub with_sign : List (List ℕ) → Sign → List (List ℕ)
+abbrev pub with_sign : List (List ℕ) → TokenSign → List (List ℕ)
 with_sign words (A_word word) = with_word words word
 with_sign words _ = words
 
@@ -40,7 +40,7 @@ abbrev pub word_number : List (List ℕ) → List ℕ → ℕ
 word_number words word = position_or_len (bytes_eq word) words
 
 -- what a sign is, where words go by their numbers
-abbrev pub kind_of : List (List ℕ) → Sign → Kind
+abbrev pub kind_of : List (List ℕ) → TokenSign → Kind
 kind_of words (A_char c) = Char c
 kind_of words (A_word word) = Word (word_number words word)
 kind_of words (A_symbol c) = Symbol c

@@ -1,22 +1,25 @@
 //! The faults of a source.
 
-ghost use Rattle.std.specs.Prelude.{◌≡◌, ◌<◌, ◌≤◌, ◌∷◌, ◌++◌, [], ℕ, List, length, map, reverse, chars, None, Some};
-ghost use Rattle.std.specs.Prelude.{MatchResult, IfSome, OnOk};
+ghost use Rattle.std.specs.Prelude.{◌≡◌, ◌<◌, ◌≤◌, ℕ, List, length, map, reverse, chars, None, Some, MatchResult, IfSome};
+ghost use Rattle.std.specs.Result.{result_map_both};
 ghost use Rattle.tk_token.specs.Faults.{is_refused, first_place, text_fault, open_after, balanced};
-ghost use Rattle.tk_token.specs.Refusals.{Gives};
 ghost use Rattle.tk_token.specs.Token.{token_of, sign_of};
 
 use crate::lexer::split_first;
-use crate::{Code, Fault, Kind, Refusal, Tok};
-use std::alloc::{AllocError, Global};
+use crate::{Code, Fault, Kind, Tok};
+use arrayvec::ArrayVec;
 
 /// How many braces may be open.
 const MOST_OPEN: usize = 256;
 
+/// The places of the braces that are open, the innermost of which is last.
+type OpenBraces = ArrayVec<u32, MOST_OPEN>;
+
 /// A source as text.
 pub(crate) fn text_of(source: &[u8]) -> Result<&str, Fault>
     requires { length source.now ≤ 16777216 }
-    ensures { MatchResult result (λ text. (text.now ≡ source.now) × (text_fault source.now ≡ None))
+    ensures { MatchResult result
+        (λ text. (text.now ≡ source.now) × (text_fault source.now ≡ None))
         (λ fault. text_fault source.now ≡ Some fault) }
 {
     let text = match str::from_utf8(source) {
@@ -54,43 +57,40 @@ fn is_refused(character: char) -> bool
     matches!(character, '\0'..='\u{8}' | '\u{b}' | '\u{c}' | '\u{e}'..='\u{1f}' | '\u{fffe}' | '\u{ffff}')
 }
 
-/// Asks that braces balance, and that no more than 256 are open at once.
-pub(crate) fn balanced(alloc: Global, toks: &[Tok]) -> Result<(), Refusal>
+/// Asks that braces balance, and that no more than 256 are open at once. This takes no memory.
+pub(crate) fn balanced(toks: &[Tok]) -> Result<(), Fault>
     ensures { (names : List (List ℕ))
-        → Gives (λ _. map (token_of names) toks.now) result (balanced (map (token_of names) toks.now)) }
+        → result_map_both (λ _. map (token_of names) toks.now) (λ fault. fault) result
+        ≡ balanced (map (token_of names) toks.now) }
 {
-    let mut open_at = Vec::new(alloc);
+    let mut open_at = OpenBraces::new();
     for tok in toks {
         open_after(&mut open_at, *tok)?;
     }
     match open_at.last() {
-        Some(at) => Err(Refusal::Fault(Fault::new(Code::Brace, *at))),
+        Some(at) => Err(Fault::new(Code::Brace, *at)),
         None => Ok(()),
     }
 }
 
-/// Takes a token into the places of the braces that are open, the innermost of which is last.
-fn open_after(open_at: &mut Vec<u32>, tok: Tok) -> Result<(), Refusal>
-    ensures { (names : List (List ℕ)) → Gives (λ _. reverse open_at.new.items) result
-        (open_after (reverse open_at.old.items) (sign_of names tok.kind) tok.at) }
+/// Takes a token into the places of the braces that are open.
+fn open_after(open_at: &mut OpenBraces, tok: Tok) -> Result<(), Fault>
+    ensures { (names : List (List ℕ))
+        → result_map_both (λ _. reverse open_at.new.items) (λ fault. fault) result
+        ≡ open_after (reverse open_at.old.items) (sign_of names tok.kind) tok.at }
 {
     match tok.kind {
         Kind::Open => {
-            if open_at.len() == MOST_OPEN {
-                return Err(Refusal::new(Code::TooDeep, tok.at));
+            if open_at.is_full() {
+                return Err(Fault::new(Code::TooDeep, tok.at));
             }
-            Ok(add(open_at, tok.at)?)
+            open_at.push(tok.at);
+            Ok(())
         }
         Kind::Close => match open_at.pop() {
             Some(_) => Ok(()),
-            None => Err(Refusal::new(Code::Brace, tok.at)),
+            None => Err(Fault::new(Code::Brace, tok.at)),
         },
         _ => Ok(()),
     }
-}
-
-fn add(open_at: &mut Vec<u32>, at: u32) -> Result<(), AllocError>
-    ensures { OnOk result (open_at.new.items ≡ open_at.old.items ++ at ∷ []) }
-{
-    Ok(open_at.push(at)?)
 }

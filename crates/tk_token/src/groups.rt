@@ -87,10 +87,11 @@ fn has_bar(list: &[Tok]) -> bool
 /// The tokens before that character, at its first place outside braces, and those behind it: `a=b` is parted into `a`
 /// and `b` by `=`. There are none where `first_outside` has none.
 pub fn before_char(list: &[Tok], wanted: char) -> Option<(&[Tok], &[Tok])>
-    ensures { option_map (λ found. cut found.0.now found.1.now) result ≡ groups.before_char wanted list.now }
+    ensures { option_map (λ found. cut found.0.now found.1.now) result
+        ≡ groups.before_char wanted list.now }
 {
     let (front, rest) = first_outside(list, Sought::Char(wanted))?;
-    Some((front, without_first(rest)))
+    Some((front, without_first(rest, 1)))
 }
 
 /// Whether what is sought is in front, and no brace is open.
@@ -156,7 +157,8 @@ pub fn begins_three(
     second_wanted: char,
     third_wanted: char,
 ) -> bool
-    ensures { result ≡ kinds.begins_text (first_wanted ∷ second_wanted ∷ third_wanted ∷ []) list.now }
+    ensures { result
+        ≡ kinds.begins_text (first_wanted ∷ second_wanted ∷ third_wanted ∷ []) list.now }
 {
     match list.split_first() {
         Some((first, rest)) => {
@@ -202,13 +204,14 @@ pub fn trimmed(list: &[Tok]) -> &[Tok]
     before_spaces(after_spaces(list))
 }
 
-/// The tokens without the first one.
-fn without_first(list: &[Tok]) -> &[Tok]
-    ensures { result.now ≡ drop 1 list.now }
+/// The tokens without the first ones, so many; there are none where the list has no more.
+pub fn without_first(list: &[Tok], count: usize) -> &[Tok]
+    ensures { result.now ≡ drop count list.now }
 {
-    match list.split_first() {
-        Some((_, rest)) => rest,
-        None => list,
+    if count <= list.len() {
+        list.split_at(count).1
+    } else {
+        &[]
     }
 }
 
@@ -223,7 +226,7 @@ fn alone(list: &[Tok]) -> Option<&[Tok]>
     ensures { option_map (λ inside. inside.now) result ≡ groups.alone (groups.group_of list.now) }
 {
     let (inside, rest) = first_outside(list, Sought::Close)?;
-    if are_spaces(without_first(rest)) {
+    if are_spaces(without_first(rest, 1)) {
         Some(inside)
     } else {
         None

@@ -24,7 +24,8 @@ pub fn all_characters_have_tokens()
 
 /// No source has two lists of tokens, two faults, or both.
 pub fn a_source_lexes_in_one_way()
-    ensures { (source : List ℕ) (a b : Answer (List Token)) → Lexes source a → Lexes source b → a ≡ b }
+    ensures { (source : List ℕ) (a b : Answer (List Token))
+        → Lexes source a → Lexes source b → a ≡ b }
 {}
 
 /// Each source has tokens or a fault.
@@ -35,15 +36,16 @@ pub fn each_source_lexes()
 /// The bytes before the fault of a source are UTF-8, and its place lies within the source, so that it has a line and a
 /// column.
 pub fn what_stands_before_a_fault_is_text()
-    ensures { (source : List ℕ) (fault : AFault) → Lexes source (Err fault) → (fault.at ≤ length source)
-        × IsUtf8 (take fault.at source) }
+    ensures { (source : List ℕ) (fault : AFault) → Lexes source (Err fault)
+        → (fault.at ≤ length source) × IsUtf8 (take fault.at source) }
 {}
 
 /// A source that has no fault is UTF-8, and so are the bytes before each of its tokens, which thus has a line and a
 /// column.
 pub fn a_source_without_fault_is_text()
     ensures { (source : List ℕ) (toks : List Token) → Lexes source (Ok toks)
-        → IsUtf8 source × AllByRecursion (λ (t : Token). (t.at < length source) × IsUtf8 (take t.at source)) toks }
+        → IsUtf8 source
+        × AllByRecursion (λ (t : Token). (t.at < length source) × IsUtf8 (take t.at source)) toks }
 {}
 
 /// Each word stands once among the words of tokens, so that its number stands for it alone.

@@ -1,6 +1,6 @@
 //! Cutting the characters of a source into tokens.
 
-ghost use Rattle.std.specs.Prelude.{◌∷◌, ◌≡◌, ◌≢◌, ℕ, ◌+◌, ◌<◌, ◌≤◌, List, [], length, map, chars, not, true, None};
+ghost use Rattle.std.specs.Prelude.{◌∷◌, ◌≡◌, ◌≢◌, ℕ, ◌+◌, ◌<◌, ◌≤◌, List, [], length, chars, not, true, None};
 ghost use Rattle.std.specs.Prelude.{Some, Ok, Err, IfOk, IfErr, IfSome, OnOk, MatchOption, IsUtf8};
 ghost use Rattle.std.specs.List.{All, after_first};
 ghost use Rattle.tk_token.specs.Cutting.{is_indent, is_blank, is_letter, letters_of, after_word, after_comment};
@@ -9,7 +9,8 @@ ghost use Rattle.tk_token.specs.Faults.{after_mark, Lexes};
 ghost use Rattle.tk_token.specs.Pieces.{CutsOne};
 ghost use Rattle.tk_token.specs.Places.{is_line_end};
 ghost use Rattle.tk_token.specs.Refusals.{OnFault};
-ghost use Rattle.tk_token.specs.Token.{token_of, sign_of, IsWordIn, IsNoArg, Extends};
+ghost use Rattle.tk_token.specs.Token.{sign_of, IsWordIn, IsNoArg, Extends};
+ghost use Rattle.tk_token.specs.Views.{tokens_in};
 ghost use Rattle.tk_token.specs.Words.{EachOnce, with_sign, words_of};
 
 use crate::faults::{balanced, text_of};
@@ -30,21 +31,24 @@ pub struct Lexed {
 /// is left open.
 pub fn lex(alloc: Global, source: &[u8]) -> Result<Lexed, Refusal>
     requires { length source.now ≤ 16777216 }
-    ensures tokens { IfOk result (λ lexed. Lexes source.now (Ok (map (token_of lexed.names) lexed.toks.items))) }
-    ensures fault { IfErr result (λ refusal. OnFault refusal (λ fault. Lexes source.now (Err fault))) }
+    ensures tokens { IfOk result (λ lexed. Lexes source.now (Ok (tokens_in lexed))) }
+    ensures fault { IfErr result
+        (λ refusal. OnFault refusal (λ fault. Lexes source.now (Err fault))) }
 
     // A word is the number of one of the names, which are the words of the tokens, each once, in the order in which
     // they first stand there; no token is the place of an argument.
-    ensures words { IfOk result (λ lexed. All (λ tok. IsWordIn lexed.names tok.kind) lexed.toks.items) }
+    ensures words { IfOk result
+        (λ lexed. All (λ tok. IsWordIn lexed.names tok.kind) lexed.toks.items) }
     ensures once { IfOk result (λ lexed. EachOnce lexed.names) }
-    ensures listed { IfOk result (λ lexed. lexed.names ≡ words_of (map (token_of lexed.names) lexed.toks.items)) }
+    ensures listed { IfOk result (λ lexed. lexed.names ≡ words_of (tokens_in lexed)) }
     ensures few { IfOk result (λ lexed. length lexed.names ≤ 17000000) }
     ensures no_arg { IfOk result (λ lexed. All (λ tok. IsNoArg tok.kind) lexed.toks.items) }
-    ensures places { IfOk result (λ lexed. All (λ tok. tok.at < length source.now) lexed.toks.items) }
+    ensures places { IfOk result
+        (λ lexed. All (λ tok. tok.at < length source.now) lexed.toks.items) }
 {
     let text = text_of(source)?;
     let lexed = cut(alloc, text)?;
-    balanced(alloc, &lexed.toks)?;
+    balanced(&lexed.toks)?;
     Ok(lexed)
 }
 
@@ -52,12 +56,13 @@ pub fn lex(alloc: Global, source: &[u8]) -> Result<Lexed, Refusal>
 #[tactic(auto, unfolding(crate::specs::Words::words_of))]
 fn cut(alloc: Global, text: &str) -> Result<Lexed, AllocError>
     requires short { length text.now ≤ 16777216 }
-    ensures tokens { IfOk result (λ lexed. Tokens (length text.now) (after_mark (chars text.now))
-        (map (token_of lexed.names) lexed.toks.items)) }
-    ensures words { IfOk result (λ lexed. All (λ tok. IsWordIn lexed.names tok.kind) lexed.toks.items) }
+    ensures tokens { IfOk result
+        (λ lexed. Tokens (length text.now) (after_mark (chars text.now)) (tokens_in lexed)) }
+    ensures words { IfOk result
+        (λ lexed. All (λ tok. IsWordIn lexed.names tok.kind) lexed.toks.items) }
     ensures once { IfOk result (λ lexed. EachOnce lexed.names) }
     ensures few { IfOk result (λ lexed. length lexed.names ≤ length text.now) }
-    ensures listed { IfOk result (λ lexed. lexed.names ≡ words_of (map (token_of lexed.names) lexed.toks.items)) }
+    ensures listed { IfOk result (λ lexed. lexed.names ≡ words_of (tokens_in lexed)) }
 {
     let mut toks = Vec::new(alloc);
     let mut names = Names::new(alloc);
@@ -88,7 +93,9 @@ fn without_mark(text: &str) -> &str
 
 /// The first character of a text, and what stands after it.
 pub(crate) fn split_first(text: &str) -> Option<(char, &str)>
-    ensures value { MatchOption result (chars text.now ≡ []) (λ parts. chars text.now ≡ parts.0 ∷ chars parts.1.now) }
+    ensures value { MatchOption result
+        (chars text.now ≡ [])
+        (λ parts. chars text.now ≡ parts.0 ∷ chars parts.1.now) }
     ensures text { IfSome result (λ parts. IsUtf8 parts.1.now) }
     ensures within { IfSome result (λ parts. length parts.1.now < length text.now) }
 {
@@ -106,15 +113,16 @@ fn next_kind<'s>(
 ) -> Result<(Kind, &'s str), AllocError>
     requires room { length names.old < 4294967295 }
     requires no_comment { first ≢ 37 }
-    ensures cuts { IfOk result (λ found. CutsOne (first ∷ chars tail.now) (sign_of names.new found.0)
-        (chars found.1.now)) }
+    ensures cuts { IfOk result (λ found.
+        CutsOne (first ∷ chars tail.now) (sign_of names.new found.0) (chars found.1.now)) }
     ensures text { IfOk result (λ found. IsUtf8 found.1.now) }
     ensures within { IfOk result (λ found. length found.1.now ≤ length tail.now) }
     ensures word { IfOk result (λ found. IsWordIn names.new found.0) }
     ensures names { OnOk result (Extends names.old names.new) }
     ensures few { OnOk result (length names.new ≤ length names.old + 1) }
     ensures once { OnOk result (EachOnce names.old → EachOnce names.new) }
-    ensures listed { IfOk result (λ found. names.new ≡ with_sign names.old (sign_of names.new found.0)) }
+    ensures listed { IfOk result
+        (λ found. names.new ≡ with_sign names.old (sign_of names.new found.0)) }
 {
     if is_blank(first) {
         return Ok((Kind::Space, after_gap(tail)));
@@ -137,7 +145,8 @@ fn next_control<'s>(names: &mut Names, tail: &'s str) -> Result<(Kind, &'s str),
     ensures names { OnOk result (Extends names.old names.new) }
     ensures few { OnOk result (length names.new ≤ length names.old + 1) }
     ensures once { OnOk result (EachOnce names.old → EachOnce names.new) }
-    ensures listed { IfOk result (λ found. names.new ≡ with_sign names.old (sign_of names.new found.0)) }
+    ensures listed { IfOk result
+        (λ found. names.new ≡ with_sign names.old (sign_of names.new found.0)) }
 {
     match split_first(tail) {
         None => Ok((Kind::Symbol(' '), tail)),
@@ -159,7 +168,8 @@ fn next_word<'s>(names: &mut Names, tail: &'s str) -> Result<(Kind, &'s str), Al
     ensures names { OnOk result (Extends names.old names.new) }
     ensures few { OnOk result (length names.new ≤ length names.old + 1) }
     ensures once { OnOk result (EachOnce names.old → EachOnce names.new) }
-    ensures listed { IfOk result (λ found. names.new ≡ with_sign names.old (sign_of names.new found.0)) }
+    ensures listed { IfOk result
+        (λ found. names.new ≡ with_sign names.old (sign_of names.new found.0)) }
 {
     let (word, after) = split_letters(tail);
     let number = names.add(word)?;

@@ -14,7 +14,7 @@ mod texts;
 
 pub use groups::{
     Sought, after_spaces, before_char, before_spaces, begins_char, begins_pair, begins_three,
-    closes_nothing, depth_after, first_outside, trimmed, unbraced,
+    closes_nothing, depth_after, first_outside, trimmed, unbraced, without_first,
 };
 pub use kinds::one_word;
 pub use laws::{

@@ -5,5 +5,5 @@ use Rattle.tk_expr.proofs.pieces.mark_in.Given as goal
 -- the rows that are left say the same
 abbrev pub invariant-loop-text : goal.invariant-loop-text
 invariant-loop-text l =
-    marked (λ row. record { text = row.0.now; mark = row.1 }) l.word l.table
-    ≡ marked (λ row. record { text = row.0.now; mark = row.1 }) l.word (drop l.text-index l.table)
+    marked (λ row. (row.0.now, row.1)) l.word l.table
+    ≡ marked (λ row. (row.0.now, row.1)) l.word (drop l.text-index l.table)

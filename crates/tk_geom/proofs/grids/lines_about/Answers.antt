@@ -1,4 +1,4 @@
-use Rattle.std.proofs.Common.{◌≡◌, ◌∙◌, ap, ℕ, ℤ, pos, ◌+ℤ◌, ◌-ℤ◌, int_div, unsigned_abs, ◌≤◌, arith}
+use Rattle.std.proofs.Common.{◌≡◌, ◌∙◌, ap, ℕ, ℤ, pos, ◌+ℤ◌, ◌-ℤ◌, int_div}
 use Rattle.tk_affine.proofs.Wide.{fits_scaled}
 use Rattle.tk_geom.specs.GridLines.{multiples_between, ceiling_of, floor_of, count_between, rising, lines_at}
 use Rattle.tk_geom.specs.GridViews.{line_at}
@@ -59,7 +59,7 @@ returns-clause-value c =
     ∙ ap (λ z. floor_of (c.args.about.now.high +ℤ int_div z (pos 100)) (in64 c.sp-4.result)) c.sp-edge.ensures.value
     ∙ ap (λ z. floor_of (c.args.about.now.high +ℤ int_div c.args.step (pos 100)) z) (fits_scaled c.sp-4.result c.sp-4.ensures.range
     ∙ c.sp-4.ensures.value) in
-    let lines : ℤ → ℕ → _ = λ k n. lines_at (line_at c.args.way c.args.ends.now.low c.args.ends.now.high) c.args.step (rising k n) in
+    let lines : ℤ → ℕ → _ = λ k n. lines_at (line_at c.args.direction c.args.ends.now.low c.args.ends.now.high) c.args.step (rising k n) in
     ap (lines (in64 c.ceiling_of-first.result)) c.count_between.ensures.value
     ∙ ap (λ z. lines z (count_between z (in64 c.floor_of-last.result))) first
     ∙ ap (λ z. lines (ceiling_of (c.args.about.now.low -ℤ int_div c.args.step (pos 100)) c.args.step)

@@ -1,7 +1,7 @@
 use Rattle.std.proofs.Common.{◌≡◌, ◌∙◌, ap, sym, Ok, Err}
 use Rattle.std.proofs.lemmas.Result.{err_from_is_err_and}
 use Rattle.tk_token.proofs.Answering.{fails_as}
-use Rattle.tk_look.specs.Graphics.{answer_at}
+use Rattle.tk_affine.specs.Faults.{answer_at}
 use Rattle.tk_geom.specs.GridLines.{corners}
 use Rattle.tk_geom.specs.Grids.{grid_appended}
 use Rattle.tk_geom.proofs.GridPieces.{positive_steps, no_grid_without_steps, no_grid_without_corners, grid_between_corners}

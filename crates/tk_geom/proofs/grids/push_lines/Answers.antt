@@ -14,7 +14,7 @@ pub returns-in_err-push_line-clause-gives : goal.returns-in_err-push_line-clause
 returns-in_err-push_line-clause-gives c =
     let p = err_from_is_err_and c.from_residual.result c.from_residual.ensures.1 in
     let lines = c.args.lines.now in
-    let line : ℤ → GridLine = line_at lines.way lines.ends.low lines.ends.high in
+    let line : ℤ → GridLine = line_at lines.direction lines.ends.low lines.ends.high in
     let is : c.line_at-line.result ≡ line ((lines.first +ℤ pos c.loop-i.i) *ℤ lines.step) =
     c.line_at-line.ensures ∙ ap line (to_z-of_z w64 c.multiple_at.result (record { sfits = c.multiple_at.type_inv }) ∙ c.multiple_at.ensures) in
     rw (p.1, p.2) (
@@ -26,7 +26,7 @@ returns-in_err-push_line-clause-gives c =
 pub loop-i-preserved : goal.loop-i-preserved
 loop-i-preserved c =
     let lines = c.args.lines.now in
-    let line : ℤ → GridLine = line_at lines.way lines.ends.low lines.ends.high in
+    let line : ℤ → GridLine = line_at lines.direction lines.ends.low lines.ends.high in
     let is : c.line_at-line.result ≡ line ((lines.first +ℤ pos c.loop-i.i) *ℤ lines.step) =
     c.line_at-line.ensures ∙ ap line (to_z-of_z w64 c.multiple_at.result (record { sfits = c.multiple_at.type_inv }) ∙ c.multiple_at.ensures) in
     let kept = c.in_ok-push_line.ensures.kept in
@@ -44,7 +44,7 @@ loop-i-preserved c =
 pub loop-i-init : goal.loop-i-init
 loop-i-init c =
     let lines = c.args.lines.now in
-    let line : ℤ → GridLine = line_at lines.way lines.ends.low lines.ends.high in
+    let line : ℤ → GridLine = line_at lines.direction lines.ends.low lines.ends.high in
     record {
       told =
           ap (grid_appended c.args.segs.now)
@@ -68,7 +68,7 @@ returns-in_err-push_line-clause-kept c = goes_further _ _ _ c.loop-i.invariant.k
 pub returns-clause-gives : goal.returns-clause-gives
 returns-clause-gives c =
     let lines = c.args.lines.now in
-    let line : ℤ → GridLine = line_at lines.way lines.ends.low lines.ends.high in
+    let line : ℤ → GridLine = line_at lines.direction lines.ends.low lines.ends.high in
     c.loop-i.invariant.told
     ∙ lines_end c.args.m.now c.args.units.now.budget c.args.at line lines.step lines.first lines.count c.loop-i.i c.loop-i.units.used c.loop-i.segs
     c.loop-i-test.false

@@ -11,7 +11,7 @@ invariant-loop-i l = record {
   told :
       grid_appended l.initial.segs (lines_drawn l.m l.initial.units.budget l.at l.initial.units.used (lines_of l.lines))
       ≡ grid_appended l.segs (lines_drawn l.m l.initial.units.budget l.at l.units.used
-      (lines_at (line_at l.lines.way l.lines.ends.low l.lines.ends.high) l.lines.step (rising (l.lines.first +ℤ pos l.i) (l.lines.count - l.i))));
+      (lines_at (line_at l.lines.direction l.lines.ends.low l.lines.ends.high) l.lines.step (rising (l.lines.first +ℤ pos l.i) (l.lines.count - l.i))));
   budget : l.units.budget ≡ l.initial.units.budget;
   kept : Continues l.initial.segs l.segs;
 }

@@ -1,7 +1,7 @@
-use Rattle.std.proofs.Common.{rules, ◌≡◌, ◌<◌, get_or, ℕ, List, length, map, Ok, sym, subst}
+use Rattle.std.proofs.Common.{rules, ◌≡◌, ◌<◌, get_or, ℕ, List, length, map, Ok, Err, sym, subst}
+use Rattle.tk_token.specs.declared.Fault.{Fault}
 use Rattle.tk_token.specs.declared.Tok.{Tok}
 use Rattle.tk_token.specs.Faults.{balanced, refused}
-use Rattle.tk_token.specs.Refusals.{Fails}
 use Rattle.tk_token.specs.Token.{token_of}
 use Rattle.tk_token.proofs.Braces.{lexes_as, lexes_fault}
 use Rattle.std.specs.Str.{IsUtf8}
@@ -16,10 +16,11 @@ pub returns-in_err-balanced-clause-fault : goal.returns-in_err-balanced-clause-f
 returns-in_err-balanced-clause-fault c =
     let toks = c.in_ok-lexed.lexed.toks.items in
     let names = c.in_ok-lexed.lexed.names in
-    let fails : Fails c.in_err-balanced.field-0.0 (balanced (map (token_of names) toks)) = subst (λ (ts : List Tok). Fails c.in_err-balanced.field-0.0
-    (balanced (map (token_of names) ts))) c.deref.ensures.value (c.in_err-balanced.ensures names) in
+    let f : Fault = c.in_err-balanced.field-0.0 in
+    let fails : Err f ≡ balanced (map (token_of names) toks) = subst (λ (ts : List Tok). Err f ≡ balanced (map (token_of names) ts))
+    c.deref.ensures.value (c.in_err-balanced.ensures names) in
     let e = lexes_fault c.args.source.now c.in_ok-text.text.now (map (token_of names) toks) c.in_ok-text.ensures.0 c.in_ok-text.ensures.1
-    c.in_ok-lexed.ensures.tokens c.in_err-balanced.field-0.0 fails in
+    c.in_ok-lexed.ensures.tokens f (sym fails) in
     search rules
 
 pub returns-clause-tokens : goal.returns-clause-tokens
@@ -27,7 +28,7 @@ returns-clause-tokens c =
     let toks = c.in_ok-lexed.lexed.toks.items in
     let names = c.in_ok-lexed.lexed.names in
     let so : balanced (map (token_of names) toks) ≡ Ok (map (token_of names) toks) = subst (λ (ts : List Tok). balanced (map (token_of names) ts)
-    ≡ Ok (map (token_of names) ts)) c.deref.ensures.value (c.in_ok-balanced.ensures names) in
+    ≡ Ok (map (token_of names) ts)) c.deref.ensures.value (sym (c.in_ok-balanced.ensures names)) in
     lexes_as c.args.source.now c.in_ok-text.text.now (map (token_of names) toks) c.in_ok-text.ensures.0 c.in_ok-text.ensures.1
     c.in_ok-lexed.ensures.tokens (Ok (map (token_of names) toks)) so
 

@@ -17,7 +17,7 @@ returns-in_err-point c =
 pub loop-front-smaller : goal.loop-front-smaller
 loop-front-smaller c =
     let less = rest_is_shorter c.loop-front.rest.now c.in-Some.front.now c.in-Some.behind.now c.in-Some.ensures in
-    omega (arith, less, ap (length {A = Tok}) c.behind_sign-rest.ensures)
+    omega (arith, less, ap (length {A = Tok}) c.without_first-rest.ensures)
 
 pub loop-front-preserved : goal.loop-front-preserved
 loop-front-preserved c =
@@ -25,8 +25,8 @@ loop-front-preserved c =
     goes_on evaluated c.args.self.now.font c.args.self.now.look.now c.args.self.now.matrix c.args.at _
     c.loop-front.starts.items c.loop-front.rest.now c.loop-front.invariant
     c.in-Some.front.now c.in-Some.behind.now c.in-Some.ensures
-    s c.push.new.self.items c.behind_sign-rest.result.now
-    c.in_ok-point.ensures c.sign_in_front-sign.ensures c.in_ok-push.ensures.items c.behind_sign-rest.ensures
+    s c.push.new.self.items c.without_first-rest.result.now
+    c.in_ok-point.ensures c.sign_in_front-sign.ensures c.in_ok-push.ensures.items c.without_first-rest.ensures
 
 pub returns-in_err-end : goal.returns-in_err-end
 returns-in_err-end c =
