@@ -7,7 +7,7 @@ ghost use Rattle.tk_expr.specs.Evaluates.{Evaluates};
 ghost use Rattle.tk_expr.specs.Steps.{Leads};
 ghost use Rattle.tk_expr.specs.Pieces.{pieces_of};
 
-use crate::machine::{Mode, State};
+use crate::machine::{Mode, ExprState};
 use crate::pieces::next_piece;
 use crate::plain::plain_value;
 use crate::steps::misfit;
@@ -26,7 +26,7 @@ fn operand(font: &FontUnits, mode: Mode) -> Option<Found>
     }
 }
 
-impl State {
+impl ExprState {
     /// The state behind all tokens, or the fault of the first piece that doesn't fit.
     fn run(&mut self, font: &FontUnits, list: &[Tok]) -> Result<(), Fault>
         ensures { Leads result self.new (machine.run font.now self.old (pieces_of list.now)) }
@@ -73,7 +73,7 @@ pub(crate) fn evaluate(list: &[Tok], font: &FontUnits, at: u32) -> Result<Value,
 fn by_machine(list: &[Tok], font: &FontUnits, at: u32) -> Result<Value, Fault>
     ensures { result ≡ spec.evaluated font.now at list.now }
 {
-    let mut state = State::new();
+    let mut state = ExprState::new();
     state.run(font, list)?;
     state.finish(font, end_of(at, list))
 }

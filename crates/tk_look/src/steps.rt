@@ -83,10 +83,10 @@ pub(crate) fn facing(side: Side) -> Anchor
 }
 
 /// The steps that a key makes.
-pub(crate) type Steps = ArrayVec<Step, 3>;
+pub(crate) type KeySteps = ArrayVec<Step, 3>;
 
 /// One step alone.
-pub(crate) fn one_step(step: Step) -> Steps
+pub(crate) fn one_step(step: Step) -> KeySteps
     ensures { result.items ≡ step ∷ [] }
 {
     let mut steps = ArrayVec::new();
@@ -109,7 +109,7 @@ pub(crate) fn turn_around(
     list: &[Tok],
     font: FontUnits,
     at: u32,
-) -> Result<Steps, Fault>
+) -> Result<KeySteps, Fault>
     ensures { MatchResult result
         (λ steps. spec.turn_around at evaluated font list.now look.now ≡ Ok steps.items)
         (λ fault. spec.turn_around at evaluated font list.now look.now ≡ Err fault) }
