@@ -5,7 +5,6 @@ ghost use Rattle.tk_token.specs.Refusals.{Gives};
 ghost use Rattle.tk_token.specs.Spaces.{trimmed};
 ghost use Rattle.tk_expr.specs.Evaluated.{evaluated};
 ghost use Rattle.tk_expr.specs.Evaluates.{Evaluation, IsEvaluation};
-ghost use Rattle.tk_expr.specs.Pairs.{paired};
 ghost use Rattle.tk_look.specs.Graphics.{answer_at};
 ghost use Rattle.tk_coord.specs.Coordinates as spec;
 
@@ -31,13 +30,6 @@ struct CoordinateSystem<'a> {
 }
 
 impl CoordinateSystem<'_> {
-    /// The numbers of a text, if it has some.
-    fn numbers(&self, text: &[Tok], at: u32) -> Result<Option<ValuePair>, Fault>
-        ensures { result ≡ paired evaluated self.now.font at text.now }
-    {
-        pair(text, self.font, at)
-    }
-
     /// The point of numbers.
     fn point_in_numbers(&self, numbers: ValuePair, at: u32) -> Result<Point, Fault>
         ensures { result ≡ spec.point_in_numbers self.now.look.now self.now.matrix at numbers }
@@ -52,7 +44,7 @@ impl CoordinateSystem<'_> {
             ≡ spec.lone_point evaluated self.now.font self.now.look.now self.now.matrix at (trimmed text.now) }
     {
         let text = trimmed(text);
-        match self.numbers(text, at)? {
+        match pair(text, self.font, at)? {
             Some(numbers) => self.point_in_numbers(numbers, at),
             None => Err(Fault::new(code_without_numbers(text), at)),
         }
@@ -86,7 +78,7 @@ impl CoordinateSystem<'_> {
         if first_outside(text, Sought::Corner).is_some() {
             return Err(Fault::new(Code::Coordinate, at));
         }
-        let Some(numbers) = self.numbers(text, at)? else {
+        let Some(numbers) = pair(text, self.font, at)? else {
             return Err(Fault::new(Code::Coordinate, at));
         };
         let v = vector(numbers, self.look.x, self.look.y, at)?;

@@ -1,5 +1,4 @@
 pub mod DashCounts
-pub mod Evaluations
 pub mod Parentheses
 pub mod Places
 pub mod Splitting

@@ -142,6 +142,7 @@ impl Look {
     fn set_measure(&mut self, key: MeasureKey, value: Value)
         ensures { self.new ≡ spec.with_measure key value self.old }
     {
+        // The checker copies no `Value` that is used twice, since a `Scaled` lies in it: so it is taken apart.
         let Value { number, unit } = value;
         match key {
             MeasureKey::Radius => {
