@@ -14,8 +14,9 @@ use Rattle.tk_expand.specs.Expand.{Stream, stream, full}
 use Rattle.tk_expand.specs.Reading.{is_there}
 use Rattle.tk_expand.proofs.NextPlaces.{place_at}
 use Rattle.tk_expand.proofs.Places.{StandAt, Stands, StreamAt, CutAt, full_at}
-use Rattle.tk_coord.specs.Coordinates.{point_of}
-use Rattle.tk_coord.proofs.Places.{point_fine}
+use Rattle.tk_coord.specs.declared.TextTarget.{TextTarget}
+use Rattle.tk_coord.specs.Coordinates.{target_of}
+use Rattle.tk_coord.proofs.Places.{target_fine}
 use Rattle.tk_keys.specs.Given.{Given}
 use Rattle.tk_keys.proofs.DeedPlaces.{EvaluatesAt}
 use Rattle.tk_keys.proofs.Spending.{full_spends}
@@ -127,10 +128,10 @@ module _ (P : ℕ → Type 0) (given : Given) where
         (both_at P (StreamAt P) (λ (r : Stream). c.picture.units ≤ r.units) (full given.budget c.env.macros inside)
         (full_at P given.budget c.env.macros h.env.bodies inside k.text) (full_spends given.budget c.env.macros inside)) (λ text a.
         let g = c.env.graphics in
-        then_at P (λ (p : Point). Unit {0}) (Reads AnyValue c) (point_of given.evaluate given.font g.look g.matrix w.at (start_of w.sign from)
+        then_at P (λ (target : TextTarget). Unit {0}) (Reads AnyValue c) (target_of given.evaluate given.font g.look g.matrix w.at (start_of w.sign from)
         text.list.rest) _
-        (only_fault P (point_of given.evaluate given.font g.look g.matrix w.at (start_of w.sign from) text.list.rest)
-        (point_fine P w.at k.place given.evaluate given.font g.look g.matrix (λ ts l. evaluates w.at ts k.place l) (start_of w.sign from)
+        (only_fault P (target_of given.evaluate given.font g.look g.matrix w.at (start_of w.sign from) text.list.rest)
+        (target_fine P w.at k.place given.evaluate given.font g.look g.matrix (λ ts l. evaluates w.at ts k.place l) (start_of w.sign from)
         text.list.rest a.0)) (λ p _. (
           tt,
           record {

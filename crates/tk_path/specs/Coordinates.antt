@@ -11,7 +11,7 @@ use Rattle.tk_expand.specs.Expand.{stream, full}
 use Rattle.tk_expand.specs.Reading.{is_there}
 use Rattle.tk_expand.specs.Unread.{unread}
 use Rattle.tk_keys.specs.Given.{Given}
-use Rattle.tk_coord.specs.Coordinates.{point_of}
+use Rattle.tk_coord.specs.Coordinates.{target_of}
 use Rattle.tk_path.specs.declared.coordinate.Sign.{Sign}
 use Rattle.tk_path.specs.declared.coordinate.Sign.TheVariants as signs
 use Rattle.tk_path.specs.Configurations.{Configuration, with_stream, Reached, reached, Lookahead, place_ahead, must_be}
@@ -75,5 +75,5 @@ module _ (given : Given) where
   coordinate_point from w c = do
     text ← full given.budget c.env.macros (stream c.picture.units (unread w.text w.at))
     let g = c.env.graphics
-    point ← point_of given.evaluate given.font g.look g.matrix w.at (start_of w.sign from) text.list.rest
-    Ok (reached point (with_stream c (stream text.units c.list)))
+    target ← target_of given.evaluate given.font g.look g.matrix w.at (start_of w.sign from) text.list.rest
+    Ok (reached target.point (with_stream c (stream text.units c.list)))

@@ -8,13 +8,13 @@ ghost use Rattle.tk_token.specs.Groups.{cut, before_char};
 ghost use Rattle.tk_token.specs.Refusals.{Gives};
 ghost use Rattle.tk_expand.specs.Unread.{Unread};
 ghost use Rattle.tk_expr.specs.Evaluated.{evaluated};
-ghost use Rattle.tk_coord.specs.Coordinates.{point_of};
+ghost use Rattle.tk_coord.specs.Coordinates.{target_of};
 ghost use Rattle.tk_path.specs.Coordinates as spec;
 ghost use Rattle.tk_path.specs.CurrentPaths.{CurrentPath as ACurrentPath};
 ghost use Rattle.tk_path.specs.Views.{given_to, configuration_of, lookahead_of, reached_at, written_of, OnlyPays};
 
 use crate::drawer::Drawer;
-use tk_coord::resolve;
+use tk_coord::{TextTarget, resolve};
 use tk_expand::{Input, is_there};
 use tk_item::Point;
 use tk_token::{Code, Refusal, Tok};
@@ -156,17 +156,22 @@ impl Drawer {
     {
         let Written { sign, at, text } = written;
         let text = self.state.expand(text)?;
-        self.point_of_text(&text, sign.start(from), at)
+        Ok(self.target_of_text(&text, sign.start(from), at)?.point)
     }
 
-    /// The point of a coordinate whose text was expanded and whose `(` stands at that place, relative to a point if
-    /// there is one.
-    fn point_of_text(&self, text: &[Tok], from: Option<Point>, at: u32) -> Result<Point, Refusal>
-        ensures { Gives (λ point. point) result (point_of evaluated self.now.state.font self.now.state.graphics.look
-            self.now.state.graphics.matrix at from text.now) }
+    /// What the text of a coordinate stands for that was expanded and whose `(` stands at that place, relative to a
+    /// point if there is one.
+    fn target_of_text(
+        &self,
+        text: &[Tok],
+        from: Option<Point>,
+        at: u32,
+    ) -> Result<TextTarget, Refusal>
+        ensures { Gives (λ target. target) result (target_of evaluated self.now.state.font
+            self.now.state.graphics.look self.now.state.graphics.matrix at from text.now) }
     {
         let graphics = self.state.graphics();
-        let target = resolve(
+        resolve(
             self.state.allocator(),
             text,
             &graphics.look,
@@ -174,8 +179,7 @@ impl Drawer {
             self.state.font_units(),
             from,
             at,
-        )?;
-        Ok(target.point)
+        )
     }
 }
 
