@@ -18,6 +18,7 @@ pub use graphics::answer_at;
 pub use keys::apply;
 pub use lengths::{LineWidth, MiterLimit, Position};
 pub use names::NodeName;
+pub use values::anchor_in_text;
 use tk_affine::{Anchor, Matrix, Shape};
 use tk_expr::Value;
 use tk_item::{Cap, Dashes, Join, Rgb, Rule};

@@ -4,6 +4,7 @@ ghost use Rattle.std.specs.Prelude.{◌≡◌, pos, option_map, option_copied, s
 ghost use Rattle.tk_token.specs.Refusals.{Gives};
 ghost use Rattle.tk_look.specs.Views.{text_there};
 ghost use Rattle.tk_expr.specs.Evaluated.{evaluated};
+ghost use Rattle.tk_expr.specs.Evaluates.{Evaluation, IsEvaluation};
 ghost use Rattle.tk_look.specs.Values as spec;
 ghost use Rattle.tk_look.specs.Applied as native;
 ghost use Rattle.tk_look.specs.Words.{caps, joins, shapes, anchors};
@@ -145,7 +146,37 @@ fn anchor_by_name(alloc: Global, list: &[Tok]) -> Result<Option<Anchor>, AllocEr
     }
 }
 
-/// The name of an anchor, or an angle.
+/// What `anchor_in_text` gives, where the values of expressions are those of the machine.
+fn anchor_by_machine(
+    alloc: Global,
+    list: &[Tok],
+    font: FontUnits,
+    at: u32,
+) -> Result<Anchor, Refusal>
+    ensures { Gives (λ anchor. anchor) result (spec.anchor_in_text at evaluated font list.now) }
+{
+    match anchor_by_name(alloc, list)? {
+        Some(anchor) => Ok(anchor),
+        None => Ok(as_anchor(eval(list, font, at), at)?),
+    }
+}
+
+/// The anchor of a text: one of that name (`north east`), or the place on the border at the angle that the text is as an
+/// expression (`60`), in degrees. A text that is neither is refused as `NoAnchor` at `at`; other faults of expressions
+/// stand where `eval` puts them.
+pub fn anchor_in_text(
+    alloc: Global,
+    list: &[Tok],
+    font: FontUnits,
+    at: u32,
+) -> Result<Anchor, Refusal>
+    ensures { (ev : Evaluation) → IsEvaluation ev
+        → Gives (λ anchor. anchor) result (spec.anchor_in_text at ev font list.now) }
+{
+    anchor_by_machine(alloc, list, font, at)
+}
+
+/// A value that is the text of an anchor.
 pub(crate) fn anchor_value(
     alloc: Global,
     value: Option<&[Tok]>,
@@ -154,12 +185,9 @@ pub(crate) fn anchor_value(
 ) -> Result<Anchor, Refusal>
     ensures { Gives (λ anchor. anchor) result (spec.anchor_value at evaluated font (option_copied value.entry)) }
 {
-    let Some(list) = value else {
-        return Err(Refusal::new(Code::ValueRequired, at));
-    };
-    match anchor_by_name(alloc, list)? {
-        Some(anchor) => Ok(anchor),
-        None => Ok(as_anchor(eval(list, font, at), at)?),
+    match value {
+        Some(list) => anchor_by_machine(alloc, list, font, at),
+        None => Err(Refusal::new(Code::ValueRequired, at)),
     }
 }
 
