@@ -10,6 +10,7 @@ mod keys;
 mod lengths;
 mod names;
 mod steps;
+mod strokes;
 mod values;
 mod words;
 
@@ -18,11 +19,12 @@ pub use graphics::answer_at;
 pub use keys::apply;
 pub use lengths::{LineWidth, MiterLimit, Position};
 pub use names::NodeName;
-pub use values::anchor_in_text;
+pub use strokes::{look_fill, look_reach, look_stroke};
 use tk_affine::{Anchor, Matrix, Shape};
 use tk_expr::Value;
 use tk_item::{Cap, Dashes, Join, Rgb, Rule};
 use tk_num::Scaled;
+pub use values::anchor_in_text;
 
 /// How what follows is painted and placed. Lengths are in scaled points, angles in 65536ths of a degree, and a `Value`
 /// without a unit counts vectors of the picture.
