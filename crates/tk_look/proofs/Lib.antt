@@ -1,4 +1,5 @@
 pub mod DashCounts
+pub mod MadeBySteps
 pub mod Parentheses
 pub mod Places
 pub mod Splitting
