@@ -156,7 +156,21 @@ impl Drawer {
     {
         let Written { sign, at, text } = written;
         let text = self.state.expand(text)?;
-        Ok(self.target_of_text(&text, sign.start(from), at)?.point)
+        self.point_of_text(&text, sign.start(from), at)
+    }
+
+    /// The point of a coordinate whose text was expanded and whose `(` stands at that place, relative to a point if
+    /// there is one.
+    #[tactic(auto, unfolding(crate::specs::Coordinates::point_of_target))]
+    fn point_of_text(&self, text: &[Tok], from: Option<Point>, at: u32) -> Result<Point, Refusal>
+        ensures { Gives (λ point. point) result (spec.point_of_target (target_of evaluated self.now.state.font
+            self.now.state.graphics.look self.now.state.graphics.matrix at from text.now)) }
+    {
+        // The checker has a bug at a `?` here: it isn't told in which modules `NodeRecord` stands.
+        match self.target_of_text(text, from, at) {
+            Ok(target) => Ok(target.point),
+            Err(refusal) => Err(refusal),
+        }
     }
 
     /// What the text of a coordinate stands for that was expanded and whose `(` stands at that place, relative to a
