@@ -29,7 +29,7 @@ use Rattle.tk_look.specs.declared.Look.{Look}
 use Rattle.tk_look.proofs.Places.{Fine, Within}
 use Rattle.tk_affine.specs.Faults.{answer_at}
 use Rattle.tk_coord.specs.Coordinates.{translated, point_in_numbers, sign_in_front, corner_between}
-use Rattle.tk_coord.specs.Coordinates.{point_by, lone_point, by_sign, point_step, absolute_point, relative_point, point_of}
+use Rattle.tk_coord.specs.Coordinates.{point_by, lone_point, by_sign, point_step, absolute_point, relative_point, without_node, target_of}
 
 module _ (P : ℕ → Type 0) where
   fine_then : {A B : Type 0} (m : Answer A) (f : A → Answer B) → Fine P m → ((x : A) → Fine P (f x)) → Fine P (m >>= f)
@@ -114,18 +114,20 @@ module _ (P : ℕ → Type 0) where
           placed_fine (translated from by))))))
 
       -- by any form
-      pub point_fine : (from : Option Point) (text : List Tok) → Within P text → Fine P (point_of ev font look matrix at from text)
-      point_fine None text h = absolute_fine text h
-      point_fine (Some from) text h = relative_fine from (trimmed text) (trimmed_within text h)
+      pub target_fine : (from : Option Point) (text : List Tok) → Within P text → Fine P (target_of ev font look matrix at from text)
+      target_fine None text h = fine_then (absolute_point ev font look matrix at text) _ (absolute_fine text h) (λ p. tt)
+      target_fine (Some from) text h =
+          fine_then (relative_point ev font look matrix at from (trimmed text)) _
+          (relative_fine from (trimmed text) (trimmed_within text h)) (λ p. tt)
 
 -- the fault of a coordinate stands at a place of its text
-pub point_stands : (ev : Evaluation)
+pub target_stands : (ev : Evaluation)
     → IsEvaluation ev
     → (font : FontUnits) (look : Look) (matrix : Matrix) (at : ℕ) (from : Option Point) (text : List Tok)
-    → IfErr (point_of ev font look matrix at from text) (λ (f : Fault). IsPlaceOf at text f.at)
-point_stands ev is font look matrix at from text =
+    → IfErr (target_of ev font look matrix at from text) (λ (f : Fault). IsPlaceOf at text f.at)
+target_stands ev is font look matrix at from text =
     let P : ℕ → Type 0 = IsPlaceOf at text in
     let here = own_place at text in
-    let machine : Fine P (point_of evaluated font look matrix at from text) =
-    point_fine P at here evaluated font look matrix (λ ts k. evaluated_at font at ts P here k) from text (all_places at text) in
-    subst (λ (ev : Evaluation). Fine P (point_of ev font look matrix at from text)) (is_evaluated ev is) machine
+    let machine : Fine P (target_of evaluated font look matrix at from text) =
+    target_fine P at here evaluated font look matrix (λ ts k. evaluated_at font at ts P here k) from text (all_places at text) in
+    subst (λ (ev : Evaluation). Fine P (target_of ev font look matrix at from text)) (is_evaluated ev is) machine

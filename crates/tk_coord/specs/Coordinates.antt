@@ -20,6 +20,7 @@ use Rattle.tk_expr.specs.Evaluates.{Evaluation}
 use Rattle.tk_expr.specs.Pairs.{paired, vector_of}
 use Rattle.tk_look.specs.declared.Look.{Look}
 use Rattle.tk_affine.specs.Faults.{answer_at}
+use Rattle.tk_coord.specs.declared.TextTarget.{TextTarget}
 use Rattle.tk_coord.specs.declared.corners.CornerSign.{CornerSign}
 use Rattle.tk_coord.specs.declared.corners.CornerSign.TheVariants.{HorizontalFirst, VerticalFirst}
 
@@ -34,6 +35,10 @@ abbrev pub point_in_numbers : Look → Matrix → ℕ → ValuePair → Answer P
 point_in_numbers look matrix at numbers = do
   v ← vector_of look.x look.y at numbers
   answer_at at (image matrix v)
+
+-- a target that is a point and no node
+abbrev pub without_node : Point → TextTarget
+without_node p = record { point = p; node = None }
 
 -- what is wrong with a text without numbers: nothing stands there, or the name of a node, which isn't built
 abbrev pub code_without_numbers : List Tok → Code
@@ -95,7 +100,12 @@ module _ (ev : Evaluation) (font : FontUnits) (look : Look) (matrix : Matrix) (a
     by ← answer_at at (vector_image matrix v)
     answer_at at (translated from by)
 
-  -- the point of a coordinate's text, which is relative where a point is given
-  abbrev pub point_of : Option Point → List Tok → Answer Point
-  point_of None text = absolute_point text
-  point_of (Some from) text = relative_point from (trimmed text)
+  -- what a coordinate's text stands for, which is relative where a point is given: a point, and no node, since no text
+  -- that has a point is the name of one
+  abbrev pub target_of : Option Point → List Tok → Answer TextTarget
+  target_of None text = do
+    p ← absolute_point text
+    Ok (without_node p)
+  target_of (Some from) text = do
+    p ← relative_point from (trimmed text)
+    Ok (without_node p)

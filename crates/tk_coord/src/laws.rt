@@ -13,7 +13,7 @@ ghost use Rattle.tk_expr.specs.Evaluates.{Evaluation, IsEvaluation};
 ghost use Rattle.tk_expr.specs.Places.{IsPlaceOf};
 ghost use Rattle.tk_look.specs.declared.Look.{Look as ALook};
 ghost use Rattle.tk_coord.specs.declared.corners.CornerSign.TheVariants as signs;
-ghost use Rattle.tk_coord.specs.Coordinates.{corner_between, point_step, absolute_point, point_of};
+ghost use Rattle.tk_coord.specs.Coordinates.{corner_between, point_step, absolute_point, target_of};
 
 /// The point of a coordinate without `+` is what one step of its definition says.
 pub fn a_point_is_its_step()
@@ -34,7 +34,7 @@ pub fn a_point_is_never_stuck()
 pub fn a_fault_of_a_coordinate_stands_in_its_text()
     ensures { (ev : Evaluation) → IsEvaluation ev
         → (font : TheFontUnits) (look : ALook) (matrix : AMatrix) (at : ℕ) (from : Option APoint) (text : List Tok)
-        → IfErr (point_of ev font look matrix at from text) (λ fault. IsPlaceOf at text fault.at) }
+        → IfErr (target_of ev font look matrix at from text) (λ fault. IsPlaceOf at text fault.at) }
 {}
 
 /// Where nothing is moved, the corner of `p -| q` has the x of q and the y of p, and that of `p |- q` the x of p and

@@ -12,10 +12,13 @@ pub use laws::{
 };
 pub use points::resolve;
 use tk_item::Point;
+use tk_shape::NodeRecord;
 
 /// What the text of a coordinate stands for.
 #[derive(Clone, Copy, PartialEq, Eq)]
-pub struct Target {
+pub struct TextTarget {
     /// Where it lies, in scaled points.
     pub point: Point,
+    /// The node that the text names; none, since names of nodes aren't built.
+    pub node: Option<NodeRecord>,
 }

@@ -5,11 +5,10 @@ ghost use Rattle.tk_token.specs.Refusals.{Gives};
 ghost use Rattle.tk_token.specs.Spaces.{trimmed};
 ghost use Rattle.tk_expr.specs.Evaluated.{evaluated};
 ghost use Rattle.tk_expr.specs.Evaluates.{Evaluation, IsEvaluation};
-ghost use Rattle.tk_expr.specs.Pairs.{paired};
 ghost use Rattle.tk_affine.specs.Faults.{answer_at};
 ghost use Rattle.tk_coord.specs.Coordinates as spec;
 
-use crate::Target;
+use crate::TextTarget;
 use crate::corners::{CornerStart, corners_from, sign_in_front};
 use std::alloc::Global;
 use tk_affine::{Matrix, answer_at, apply, apply_vector};
@@ -31,13 +30,6 @@ struct CoordinateSystem<'a> {
 }
 
 impl CoordinateSystem<'_> {
-    /// The numbers of a text, if it has some.
-    fn numbers(&self, text: &[Tok], at: u32) -> Result<Option<ValuePair>, Fault>
-        ensures { result ≡ paired evaluated self.now.font at text.now }
-    {
-        pair(text, self.font, at)
-    }
-
     /// The point of numbers.
     fn point_in_numbers(&self, numbers: ValuePair, at: u32) -> Result<Point, Fault>
         ensures { result ≡ spec.point_in_numbers self.now.look.now self.now.matrix at numbers }
@@ -52,7 +44,7 @@ impl CoordinateSystem<'_> {
             ≡ spec.lone_point evaluated self.now.font self.now.look.now self.now.matrix at (trimmed text.now) }
     {
         let text = trimmed(text);
-        match self.numbers(text, at)? {
+        match pair(text, self.font, at)? {
             Some(numbers) => self.point_in_numbers(numbers, at),
             None => Err(Fault::new(code_without_numbers(text), at)),
         }
@@ -86,7 +78,7 @@ impl CoordinateSystem<'_> {
         if first_outside(text, Sought::Corner).is_some() {
             return Err(Fault::new(Code::Coordinate, at));
         }
-        let Some(numbers) = self.numbers(text, at)? else {
+        let Some(numbers) = pair(text, self.font, at)? else {
             return Err(Fault::new(Code::Coordinate, at));
         };
         let v = vector(numbers, self.look.x, self.look.y, at)?;
@@ -101,21 +93,22 @@ impl CoordinateSystem<'_> {
         from: Option<Point>,
         text: &[Tok],
         at: u32,
-    ) -> Result<Target, Refusal>
-        ensures { Gives (λ target. target.point) result
-            (spec.point_of evaluated self.now.font self.now.look.now self.now.matrix at from text.now) }
+    ) -> Result<TextTarget, Refusal>
+        ensures { Gives (λ target. target) result
+            (spec.target_of evaluated self.now.font self.now.look.now self.now.matrix at from text.now) }
     {
         match from {
-            Some(from) => {
-                let point = self.relative_point(from, text, at)?;
-                Ok(Target { point })
-            }
-            None => {
-                let point = self.absolute_point(alloc, text, at)?;
-                Ok(Target { point })
-            }
+            Some(from) => Ok(without_node(self.relative_point(from, text, at)?)),
+            None => Ok(without_node(self.absolute_point(alloc, text, at)?)),
         }
     }
+}
+
+/// A point that is no node's.
+fn without_node(point: Point) -> TextTarget
+    ensures { result ≡ spec.without_node point }
+{
+    TextTarget { point, node: None }
 }
 
 /// What is wrong with a text without numbers: nothing stands there, or a name, which isn't built.
@@ -139,8 +132,8 @@ fn translated(point: Point, by: Point, at: u32) -> Result<Point, Fault>
     }
 }
 
-/// The point of a coordinate's text, which is expanded already and stands behind the `(` at `at`. Spaces round it are
-/// passed over. The first form that fits holds; signs are sought outside braces, inside parentheses too.
+/// What a coordinate's text stands for, a point without a node. The text is expanded already and stands behind the `(`
+/// at `at`; Spaces round it are passed over. The first form that fits holds; signs are sought outside braces, inside parentheses too.
 ///
 /// - `p -| q` or `p |- q`, by the first of these signs, is the corner between the points of p and q, which are again of
 ///   a form of this list, with Spaces round them. All points are found from left to right, and then the corners from
@@ -164,9 +157,9 @@ pub fn resolve(
     font: FontUnits,
     from: Option<Point>,
     at: u32,
-) -> Result<Target, Refusal>
-    ensures gives { (ev : Evaluation) → IsEvaluation ev → Gives (λ target. target.point) result
-        (spec.point_of ev font look.now matrix at from list.now) }
+) -> Result<TextTarget, Refusal>
+    ensures gives { (ev : Evaluation) → IsEvaluation ev → Gives (λ target. target) result
+        (spec.target_of ev font look.now matrix at from list.now) }
 {
     let system = CoordinateSystem { look, font, matrix };
     system.target(alloc, from, list, at)

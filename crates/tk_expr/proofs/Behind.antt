@@ -14,14 +14,14 @@ use Rattle.tk_expr.specs.declared.pieces.Mark.TheVariants.{Greater, Question, Co
 use Rattle.tk_expr.specs.declared.pieces.Piece.{Piece}
 use Rattle.tk_expr.specs.declared.machine.Waiting.{Waiting}
 use Rattle.tk_expr.specs.declared.machine.Pending.{Pending}
-use Rattle.tk_expr.specs.declared.machine.Frame.{Frame}
-use Rattle.tk_expr.specs.declared.machine.Frame.TheVariants.{Then}
+use Rattle.tk_expr.specs.declared.machine.OpenFrame.{OpenFrame}
+use Rattle.tk_expr.specs.declared.machine.OpenFrame.TheVariants.{Then}
 use Rattle.tk_expr.specs.declared.machine.Mode.{Mode}
 use Rattle.tk_expr.specs.declared.machine.Mode.TheVariants.{Wanted, Ordered, Half, After}
 use Rattle.tk_expr.specs.Evaluates.{is_unit}
 use Rattle.tk_expr.specs.Faults.{Opener, name_behind, open_behind}
 use Rattle.tk_expr.specs.Grammar.{piece, Postfixes, Powers, Products, Sums, Comparisons, Conjunctions, Disjunctions}
-use Rattle.tk_expr.specs.Machine.{Found, State, nothing, applied, powered, multiplied, added, compared, conjoined, disjoined, waiting, product_waits}
+use Rattle.tk_expr.specs.Machine.{Found, ExprState, nothing, applied, powered, multiplied, added, compared, conjoined, disjoined, waiting, product_waits}
 use Rattle.tk_expr.specs.Machine.{sum_waits, comparison_waits, waits, wanted_in, with_frame, operator, comparison, after}
 use Rattle.tk_expr.proofs.Readings.{unit_found, radians_found, Goes, Exponential}
 use Rattle.tk_expr.proofs.Continuations.{Behind, Via, after_disjunction, after_conjunction, after_comparison, comparing, after_sum, after_product}
@@ -52,7 +52,7 @@ module _ (font : FontUnits) where
   abbrev pub IsNoChoice : Mark → Type 1
   IsNoChoice m = (k : Behind) (x : Found) (at : ℕ) (ps : List Piece) → ChoiceAt font k x m at ps → ⊥
 
-  module _ (m : Mark) (g : is_gap m ≡ false) (e : is_end font m ≡ false) (c : IsNoChoice m) (p : Pending) (fs : List Frame) (v : Found) where
+  module _ (m : Mark) (g : is_gap m ≡ false) (e : is_end font m ≡ false) (c : IsNoChoice m) (p : Pending) (fs : List OpenFrame) (v : Found) where
     shut_disjunction : Refuses font m (after_disjunction font (ends_in font fs v))
     shut_disjunction = refuse_disjunction font m g p (ends_in font fs v) (λ x at ps h. c (ends_in font fs v) x at ps h) (no_ends font m g e fs v)
 
@@ -120,7 +120,7 @@ module _ (font : FontUnits) where
 
   -- ---- the states behind a piece
 
-  module _ (s : State) (t : FramesTidy font s.frames) where
+  module _ (s : ExprState) (t : FramesTidy font s.frames) where
     -- the same frames and unit
     pub kept_mode : (m : Mark) (at : ℕ) (mode : Mode) (p : Pending) → HalfMode font mode → Tidy font p → is_unit m ≡ false
         → ((name : Option ℕ) (os : List Opener) → open_behind name os m ≡ os)
@@ -133,7 +133,7 @@ module _ (font : FontUnits) where
     }
 
   -- an opener
-  pub opened_is : (c : Ahead) (right comma : ℕ → Ahead) (fits : Option ℕ → Type 0) (m : Mark) (at : ℕ) (f : Frame) (s : State)
+  pub opened_is : (c : Ahead) (right comma : ℕ → Ahead) (fits : Option ℕ → Type 0) (m : Mark) (at : ℕ) (f : OpenFrame) (s : ExprState)
       → Same font c (Completes font (wanted_in (f ∷ s.frames) s)) → Kept font fits s.frames s.unit m at (wanted_in (f ∷ s.frames) s)
       → StepIs font c right comma fits s.frames s.unit m at (with_frame at f s)
   opened_is c right comma fits m at f s same kept = by (nat_lt (length s.frames) 64) refl
@@ -144,14 +144,14 @@ module _ (font : FontUnits) where
       by false e = deep (wanted_in (f ∷ s.frames) s) same kept (ltb-false (length s.frames) 64 e) refl
 
   -- behind an operand x of the state's innermost expression
-  abbrev pub BehindIs : Found → State → Mark → ℕ → Answer State → Type 0
+  abbrev pub BehindIs : Found → ExprState → Mark → ℕ → Answer ExprState → Type 0
   BehindIs x s m at r = StepIs font (λ ps v. after_primary font s.pending (ends_in font s.frames v) x (piece m at ∷ ps)) (λ k ps v. after_primary font
       s.pending (ends_in font s.frames v) x (piece Right k ∷ ps)) (λ k ps v. after_primary font s.pending (ends_in font s.frames v) x (piece Comma k
       ∷ ps)) (Unnamed font) s.frames s.unit m at r
 
   -- ---- operators
 
-  operator_is : (m : Mark) (o : Operator) (mode : Mode) (at : ℕ) (x : Found) (s : State) → FramesTidy font s.frames → HalfMode font mode
+  operator_is : (m : Mark) (o : Operator) (mode : Mode) (at : ℕ) (x : Found) (s : ExprState) → FramesTidy font s.frames → HalfMode font mode
       → Tidy font (waits o at x s.pending) → is_unit m ≡ false → ((name : Option ℕ) (os : List Opener) → open_behind name os m ≡ os)
       → ((name : Option ℕ) → Unnamed font name → NamedAt mode (name_behind name m at))
       → Same font (λ ps v. after_primary font s.pending (ends_in font s.frames v) x (piece m at ∷ ps))
@@ -161,7 +161,7 @@ module _ (font : FontUnits) where
       sure (steps (record s { mode = mode; pending = waits o at x s.pending }) iff (kept_mode s t m at mode (waits o at x s.pending) half tidy u same
       named) (λ le. le))
 
-  module _ (at : ℕ) (x : Found) (p : Pending) (fs : List Frame) (ps : List Piece) (v : Found) where
+  module _ (at : ℕ) (x : Found) (p : Pending) (fs : List OpenFrame) (ps : List Piece) (v : Found) where
     caret_same : after_primary font p (ends_in font fs v) x (piece Caret at ∷ ps) ↔ wants font (waits Raise at x p).power (waits Raise at x p)
         (ends_in font fs v) ps
     caret_same =
@@ -270,7 +270,7 @@ module _ (font : FontUnits) where
   module _ (m : Mark) (g : is_gap m ≡ false) (e : is_end font m ≡ false) (c : IsNoChoice m) (n0 : IsNot font Postfixes m) (n1 : IsNot font Powers m)
       (n2 : IsNot font Products m) (n3 : IsNot font Sums m) (n5 : IsNot font Conjunctions m) (n6 : IsNot font Disjunctions m) where
     -- where none waits
-    alone_same : (at : ℕ) (x : Found) (p : Pending) (fs : List Frame) (ps : List Piece) (v : Found) → p.comparison ≡ None → (r : Type 0)
+    alone_same : (at : ℕ) (x : Found) (p : Pending) (fs : List OpenFrame) (ps : List Piece) (v : Found) → p.comparison ≡ None → (r : Type 0)
         → OperatorAt font Comparisons (after_comparison font p (ends_in font fs v)) (compared p x) m at ps ↔ r
         → after_primary font p (ends_in font fs v) x (piece m at ∷ ps) ↔ r
     alone_same at x p fs ps v alone r f =
@@ -282,7 +282,7 @@ module _ (font : FontUnits) where
         )
 
     -- where one waits
-    second_refused : (w : Waiting) (at : ℕ) (x : Found) (p : Pending) (fs : List Frame) (ps : List Piece) (v : Found) → p.comparison ≡ Some w
+    second_refused : (w : Waiting) (at : ℕ) (x : Found) (p : Pending) (fs : List OpenFrame) (ps : List Piece) (v : Found) → p.comparison ≡ Some w
         → after_primary font p (ends_in font fs v) x (piece m at ∷ ps) → ⊥
     second_refused w at x p fs ps v is h =
         let k = ends_in font fs v in
@@ -290,7 +290,7 @@ module _ (font : FontUnits) where
         (subst (λ (w : Option Waiting). comparing font w (after_comparison font p k) (added p x) (piece m at ∷ ps)) is (from_comparand font m g p k x
         at ps n0 n1 n2 n3 h))
 
-    comparison_is : (o : Operator) (mode : Mode) (at : ℕ) (x : Found) (s : State) → FramesTidy font s.frames → HalfMode font mode
+    comparison_is : (o : Operator) (mode : Mode) (at : ℕ) (x : Found) (s : ExprState) → FramesTidy font s.frames → HalfMode font mode
         → Tidy font (waits o at x s.pending) → is_unit m ≡ false → ((name : Option ℕ) (os : List Opener) → open_behind name os m ≡ os)
         → ((name : Option ℕ) → Unnamed font name → NamedAt mode (name_behind name m at)) → ((r c : ℕ → Ahead) → NoMiscount r c s.frames m)
         → ((ps : List Piece) (v : Found) → OperatorAt font Comparisons (after_comparison font s.pending (ends_in font s.frames v))
@@ -314,7 +314,7 @@ module _ (font : FontUnits) where
         (piece m at ∷ ps) h,
   )
 
-  end_is : (m : Mark) (at : ℕ) (x : Found) (s : State) (r : Answer State) → is_gap m ≡ false → IsNoChoice m → IsNot font Postfixes m
+  end_is : (m : Mark) (at : ℕ) (x : Found) (s : ExprState) (r : Answer ExprState) → is_gap m ≡ false → IsNoChoice m → IsNot font Postfixes m
       → IsNot font Powers m → IsNot font Products m → IsNot font Sums m → IsNot font Comparisons m → IsNot font Conjunctions m
       → IsNot font Disjunctions m → EndIs font s.frames (disjoined s.pending x) s.unit m at r → BehindIs x s m at r
   end_is m at x s r g c n0 n1 n2 n3 n4 n5 n6 h =
@@ -324,7 +324,7 @@ module _ (font : FontUnits) where
       (λ k ps v. end_same Comma refl never never never never never never never never x s.pending (ends_in font s.frames v) k ps)
       h)
 
-  question_same : (at : ℕ) (x : Found) (p : Pending) (fs : List Frame) (ps : List Piece) (v : Found)
+  question_same : (at : ℕ) (x : Found) (p : Pending) (fs : List OpenFrame) (ps : List Piece) (v : Found)
       → after_primary font p (ends_in font fs v) x (piece Question at ∷ ps) ↔ wants font None nothing (ends_in font (Then (disjoined p x) ∷ fs) v) ps
   question_same at x p fs ps v =
       let k = ends_in font fs v in
@@ -337,13 +337,13 @@ module _ (font : FontUnits) where
   -- ---- one piece
 
   -- a mark that stands behind no operand
-  nothing_is : (m : Mark) (at : ℕ) (x : Found) (s : State) → is_gap m ≡ false → is_end font m ≡ false → IsNoChoice m → IsNot font Postfixes m
+  nothing_is : (m : Mark) (at : ℕ) (x : Found) (s : ExprState) → is_gap m ≡ false → is_end font m ≡ false → IsNoChoice m → IsNot font Postfixes m
       → IsNot font Powers m → IsNot font Products m → IsNot font Sums m → IsNot font Comparisons m → IsNot font Conjunctions m
       → IsNot font Disjunctions m → ((r c : ℕ → Ahead) → NoMiscount r c s.frames m) → BehindIs x s m at (fault Expression at)
   nothing_is m at x s g e c n0 n1 n2 n3 n4 n5 n6 none =
       sure (refuses (λ ps v h. shut_primary m g e c s.pending s.frames v n0 n1 n2 n3 n4 n5 n6 x at ps h) (none _ _))
 
-  unit_same : (u : AUnit) (at : ℕ) (x : Found) (p : Pending) (fs : List Frame) (ps : List Piece) (v : Found)
+  unit_same : (u : AUnit) (at : ℕ) (x : Found) (p : Pending) (fs : List OpenFrame) (ps : List Piece) (v : Found)
       → after_primary font p (ends_in font fs v) x (piece (Measure u) at ∷ ps) ↔ after_primary font p (ends_in font fs v) (unit_found font u at x) ps
   unit_same u at x p fs ps v =
       let k = ends_in font fs v in (
@@ -352,7 +352,7 @@ module _ (font : FontUnits) where
         λ h. operator_on font Postfixes (after_postfix font p k) x (Measure u) at ps h,
       )
 
-  radians_same : (at : ℕ) (x : Found) (p : Pending) (fs : List Frame) (ps : List Piece) (v : Found)
+  radians_same : (at : ℕ) (x : Found) (p : Pending) (fs : List OpenFrame) (ps : List Piece) (v : Found)
       → after_primary font p (ends_in font fs v) x (piece Radian at ∷ ps) ↔ after_primary font p (ends_in font fs v) (radians_found at x) ps
   radians_same at x p fs ps v =
       let k = ends_in font fs v in (
@@ -361,7 +361,7 @@ module _ (font : FontUnits) where
         λ h. operator_on font Postfixes (after_postfix font p k) x Radian at ps h,
       )
 
-  gap_same : (at : ℕ) (x : Found) (p : Pending) (fs : List Frame) (ps : List Piece) (v : Found)
+  gap_same : (at : ℕ) (x : Found) (p : Pending) (fs : List OpenFrame) (ps : List Piece) (v : Found)
       → after_primary font p (ends_in font fs v) x (piece Gap at ∷ ps) ↔ after_primary font p (ends_in font fs v) x ps
   gap_same at x p fs ps v = (
     λ h. pass_primary font p (ends_in font fs v) (pass_ends font fs v) x (piece Gap at ∷ ps) ps refl h,
@@ -369,7 +369,7 @@ module _ (font : FontUnits) where
         font p (ends_in font fs v) (pass_ends font fs v) x ps (piece Gap at ∷ ps) refl h,
   )
 
-  pub after_is : (x : Found) (m : Mark) (at : ℕ) (s : State) → Tidy font s.pending → FramesTidy font s.frames
+  pub after_is : (x : Found) (m : Mark) (at : ℕ) (s : ExprState) → Tidy font s.pending → FramesTidy font s.frames
       → BehindIs x s m at (after font x m at s)
   after_is x (Measure u) at s p t = sure (steps (record s { mode = After (unit_found font u at x); unit = true }) (λ ps v. unit_same u at x s.pending
       s.frames ps v) (record { valid = record { half = tt; tidy = p; frames = t }; unit_is = refl; opens = λ name os e h. (h, refl) }) (λ le. le))

@@ -8,14 +8,14 @@ use Rattle.tk_expr.specs.declared.pieces.Piece.{Piece}
 use Rattle.tk_expr.specs.declared.machine.Pending.{Pending}
 use Rattle.tk_expr.specs.declared.machine.Bracket.{Bracket}
 use Rattle.tk_expr.specs.declared.machine.Bracket.TheVariants.{Plain, Only, First, Second, Each}
-use Rattle.tk_expr.specs.declared.machine.Frame.{Frame}
-use Rattle.tk_expr.specs.declared.machine.Frame.TheVariants.{Inside, Then, Else}
+use Rattle.tk_expr.specs.declared.machine.OpenFrame.{OpenFrame}
+use Rattle.tk_expr.specs.declared.machine.OpenFrame.TheVariants.{Inside, Then, Else}
 use Rattle.tk_expr.specs.declared.machine.Mode.{Mode}
 use Rattle.tk_expr.specs.declared.machine.Mode.TheVariants.{Wanted, Ordered, Half, Named, Dot, Number, Measured, After}
 use Rattle.tk_expr.specs.Number.{Decimal, no_digits, with_digit}
 use Rattle.tk_expr.specs.Values.{pi_value}
 use Rattle.tk_expr.specs.Grammar.{piece}
-use Rattle.tk_expr.specs.Machine.{Found, State, disjoined, choice_found, one_found, two_found, most_found}
+use Rattle.tk_expr.specs.Machine.{Found, ExprState, disjoined, choice_found, one_found, two_found, most_found}
 use Rattle.tk_expr.proofs.Readings.{decimal_found, Whole, whole, unasked, group, primary_part, postfix_part, prefixed_part, product_part, sum_part}
 use Rattle.tk_expr.proofs.Readings.{comparison_part, conjunction_part, stays, no_sign_before, of_pi, no_further}
 use Rattle.tk_expr.proofs.Continuations.{Behind, Via, after_primary, wants, closes, in_bracket, ends_in, in_number, in_mode, Completes}
@@ -38,12 +38,12 @@ module _ (font : FontUnits) where
   pi_via k ps h = record { value = Ok pi_value; rest = ps; read = pi_whole 0 ps; goes = h }
 
   -- the end of a bracket, where what is open round it ends
-  close_right : (p : Pending) (fs : List Frame) (at : ℕ) (x : Found) → ((y : Found) → Some_end (λ ps v. ends_in font fs v y ps))
+  close_right : (p : Pending) (fs : List OpenFrame) (at : ℕ) (x : Found) → ((y : Found) → Some_end (λ ps v. ends_in font fs v y ps))
       → Some_end (λ ps v. closes font (after_primary font p (ends_in font fs v)) x (piece Right at ∷ ps))
   close_right p fs at x rest = let e = rest (disjoined p x) in (e.0, e.1, (at, e.0, refl, to_end font p (ends_in font fs e.1) x e.0 e.2))
 
   -- a further argument, and then the end of the bracket
-  close_comma : (p : Pending) (fs : List Frame) (at : ℕ) (f : Found → Found) → ((y : Found) → Some_end (λ ps v. ends_in font fs v y ps))
+  close_comma : (p : Pending) (fs : List OpenFrame) (at : ℕ) (f : Found → Found) → ((y : Found) → Some_end (λ ps v. ends_in font fs v y ps))
       → Some_end (λ ps v. (n : ℕ) × (qs : List Piece) × (piece Comma at ∷ ps ≡ piece Comma n ∷ qs)
       × Via (Whole font qs) (λ y rs. closes font (after_primary font p (ends_in font fs v)) (f y) rs))
   close_comma p fs at f rest = let e = close_right p fs 0 (f (Ok pi_value)) rest in (
@@ -52,7 +52,7 @@ module _ (font : FontUnits) where
     (at, piece Pi 0 ∷ piece Right 0 ∷ e.0, refl, pi_via _ (piece Right 0 ∷ e.0) e.2),
   )
 
-  close_bracket : (b : Bracket) (p : Pending) (fs : List Frame) (x : Found) → ((y : Found) → Some_end (λ ps v. ends_in font fs v y ps))
+  close_bracket : (b : Bracket) (p : Pending) (fs : List OpenFrame) (x : Found) → ((y : Found) → Some_end (λ ps v. ends_in font fs v y ps))
       → Some_end (λ ps v. in_bracket font b (after_primary font p (ends_in font fs v)) x ps)
   close_bracket Plain p fs x rest = let e = close_right p fs 0 x rest in (piece Right 0 ∷ e.0, e.1, e.2)
   close_bracket (Only f n) p fs x rest = let e = close_right p fs 0 (one_found f n x) rest in (piece Right 0 ∷ e.0, e.1, e.2)
@@ -70,7 +70,7 @@ module _ (font : FontUnits) where
         },
       )
 
-  pub close : (fs : List Frame) (x : Found) → Some_end (λ ps v. ends_in font fs v x ps)
+  pub close : (fs : List OpenFrame) (x : Found) → Some_end (λ ps v. ends_in font fs v x ps)
   close [] x = ([], x, (refl, refl))
   close (Inside b p ∷ fs) x = close_bracket b p fs x (λ y. close fs y)
   close (Then c ∷ fs) x =
@@ -78,15 +78,15 @@ module _ (font : FontUnits) where
   close (Else c y ∷ fs) x = close fs (choice_found c y x)
 
   -- what is open ends behind an operand
-  pub close_operand : (p : Pending) (fs : List Frame) (x : Found) → Some_end (λ ps v. after_primary font p (ends_in font fs v) x ps)
+  pub close_operand : (p : Pending) (fs : List OpenFrame) (x : Found) → Some_end (λ ps v. after_primary font p (ends_in font fs v) x ps)
   close_operand p fs x = let e = close fs (disjoined p x) in (e.0, e.1, to_end font p (ends_in font fs e.1) x e.0 e.2)
 
   -- a `)` or a `,` fits behind an argument
-  pub right_fits : (p : Pending) (fs : List Frame) (at : ℕ) (x : Found)
+  pub right_fits : (p : Pending) (fs : List OpenFrame) (at : ℕ) (x : Found)
       → Some_end (λ ps v. closes font (after_primary font p (ends_in font fs v)) x (piece Right at ∷ ps))
   right_fits p fs at x = close_right p fs at x (λ y. close fs y)
 
-  pub comma_fits : (p : Pending) (fs : List Frame) (at : ℕ) (f : Found → Found)
+  pub comma_fits : (p : Pending) (fs : List OpenFrame) (at : ℕ) (f : Found → Found)
       → Some_end (λ ps v. (n : ℕ) × (qs : List Piece) × (piece Comma at ∷ ps ≡ piece Comma n ∷ qs)
       × Via (Whole font qs) (λ y rs. closes font (after_primary font p (ends_in font fs v)) (f y) rs))
   comma_fits p fs at f = close_comma p fs at f (λ y. close fs y)
@@ -102,7 +102,7 @@ module _ (font : FontUnits) where
   HalfMode (Half m) = HalfMark m
   HalfMode _ = Unit {0}
 
-  close_wanted : (p : Pending) (fs : List Frame) → Tidy font p → Some_end (λ ps v. wants font p.power p (ends_in font fs v) ps)
+  close_wanted : (p : Pending) (fs : List OpenFrame) → Tidy font p → Some_end (λ ps v. wants font p.power p (ends_in font fs v) ps)
   close_wanted p fs t = let e = close_operand p fs (Ok pi_value) in (
     piece Pi 0 ∷ e.0,
     e.1,
@@ -110,10 +110,10 @@ module _ (font : FontUnits) where
         (piece Pi 0 ∷ e.0) refl t (record { value = Ok pi_value; rest = e.0; read = of_pi refl; goes = e.2 }),
   )
 
-  close_number : (n : Decimal) (p : Pending) (fs : List Frame) → Some_end (λ ps v. in_number font n (after_primary font p (ends_in font fs v)) ps)
+  close_number : (n : Decimal) (p : Pending) (fs : List OpenFrame) → Some_end (λ ps v. in_number font n (after_primary font p (ends_in font fs v)) ps)
   close_number n p fs = let e = close_operand p fs (decimal_found font (Some units.Pt) n) in (piece (Measure units.Pt) 0 ∷ e.0, e.1, (n, refl, e.2))
 
-  close_mode : (m : Mode) (p : Pending) (fs : List Frame) → HalfMode m → Tidy font p → Some_end (λ ps v. in_mode font m p (ends_in font fs v) ps)
+  close_mode : (m : Mode) (p : Pending) (fs : List OpenFrame) → HalfMode m → Tidy font p → Some_end (λ ps v. in_mode font m p (ends_in font fs v) ps)
   close_mode Wanted p fs h t = close_wanted p fs t
   close_mode Ordered p fs h t = let e = close_wanted p fs t in (e.0, e.1, inl e.2)
   close_mode (Half m) p fs h t = let e = close_wanted p fs t in (piece m 0 ∷ e.0, e.1, (0, e.0, refl, e.2))
@@ -125,5 +125,5 @@ module _ (font : FontUnits) where
   close_mode (Measured n) p fs h t = let e = close_operand p fs (decimal_found font (Some units.Pt) n) in (piece (Measure units.Pt) 0 ∷ e.0, e.1, e.2)
   close_mode (After x) p fs h t = close_operand p fs x
 
-  pub completes : (s : State) → HalfMode s.mode → Tidy font s.pending → Some_end (Completes font s)
+  pub completes : (s : ExprState) → HalfMode s.mode → Tidy font s.pending → Some_end (Completes font s)
   completes s h t = close_mode s.mode s.pending s.frames h t

@@ -8,14 +8,14 @@ use Rattle.tk_expr.specs.declared.machine.Waiting.{Waiting}
 use Rattle.tk_expr.specs.declared.machine.Pending.{Pending}
 use Rattle.tk_expr.specs.declared.machine.Bracket.{Bracket}
 use Rattle.tk_expr.specs.declared.machine.Bracket.TheVariants.{Plain, Only, First, Second, Each}
-use Rattle.tk_expr.specs.declared.machine.Frame.{Frame}
-use Rattle.tk_expr.specs.declared.machine.Frame.TheVariants.{Inside, Then, Else}
+use Rattle.tk_expr.specs.declared.machine.OpenFrame.{OpenFrame}
+use Rattle.tk_expr.specs.declared.machine.OpenFrame.TheVariants.{Inside, Then, Else}
 use Rattle.tk_expr.specs.declared.machine.Mode.{Mode}
 use Rattle.tk_expr.specs.declared.machine.Mode.TheVariants.{Wanted, Ordered, Half, Named, Dot, Number, Measured, After}
 use Rattle.tk_expr.specs.Number.{Decimal, no_digits, with_digit}
 use Rattle.tk_expr.specs.Grammar.{piece, skip, after_decimal, next_unit, after_unit, Postfixes, Powers, Products, Sums, Comparisons, Conjunctions}
 use Rattle.tk_expr.specs.Grammar.{Disjunctions, Begins}
-use Rattle.tk_expr.specs.Machine.{Found, State, signed_found, applied, powered, waiting_or_same, choice_found, one_found, two_found, most_found}
+use Rattle.tk_expr.specs.Machine.{Found, ExprState, signed_found, applied, powered, waiting_or_same, choice_found, one_found, two_found, most_found}
 use Rattle.tk_expr.proofs.Readings.{decimal_from, decimal_found, Whole, Asks, Part, Goes, Exponential, Further}
 
 -- what is behind a value: a statement about it and the pieces that are left
@@ -82,7 +82,7 @@ module _ (font : FontUnits) where
   in_bracket (Each f y) k x ps = Via (Further font f (most_found f y x) ps) k
 
   -- behind an expression that ended, with v as the value in the end
-  abbrev pub ends_in : List Frame → Found → Behind
+  abbrev pub ends_in : List OpenFrame → Found → Behind
   ends_in [] v x ps = (v ≡ x) × (skip ps ≡ [])
   ends_in (Inside b p ∷ fs) v x ps = in_bracket b (after_primary p (ends_in fs v)) x ps
   ends_in (Then c ∷ fs) v x ps =
@@ -121,5 +121,5 @@ module _ (font : FontUnits) where
   in_mode (After x) p k ps = after_primary p k x ps
 
   -- from the state on, the pieces are read to their end, and come to v
-  abbrev pub Completes : State → List Piece → Found → Type 0
+  abbrev pub Completes : ExprState → List Piece → Found → Type 0
   Completes s ps v = in_mode s.mode s.pending (ends_in s.frames v) ps

@@ -9,11 +9,11 @@ use Rattle.tk_expr.specs.declared.pieces.Piece.{Piece}
 use Rattle.tk_expr.specs.declared.machine.Pending.{Pending}
 use Rattle.tk_expr.specs.declared.machine.Bracket.{Bracket}
 use Rattle.tk_expr.specs.declared.machine.Bracket.TheVariants.{Plain, Only, First, Second, Each}
-use Rattle.tk_expr.specs.declared.machine.Frame.{Frame}
-use Rattle.tk_expr.specs.declared.machine.Frame.TheVariants.{Inside, Then, Else}
+use Rattle.tk_expr.specs.declared.machine.OpenFrame.{OpenFrame}
+use Rattle.tk_expr.specs.declared.machine.OpenFrame.TheVariants.{Inside, Then, Else}
 use Rattle.tk_expr.specs.Faults.{Opener, Parenthesis, Call, Asked, Answered, name_behind, open_behind}
 use Rattle.tk_expr.specs.Grammar.{piece, Begins}
-use Rattle.tk_expr.specs.Machine.{Found, State, closed, choice_found, wanted_in, outside, one_found, two_found, most_found, bracket_ends, at_right}
+use Rattle.tk_expr.specs.Machine.{Found, ExprState, closed, choice_found, wanted_in, outside, one_found, two_found, most_found, bracket_ends, at_right}
 use Rattle.tk_expr.specs.Machine.{bracket_goes_on, at_comma, at_colon}
 use Rattle.tk_expr.proofs.Readings.{Whole, Further, no_further, one_further}
 use Rattle.tk_expr.proofs.Continuations.{Behind, Via, after_primary, closes, in_bracket, ends_in}
@@ -79,7 +79,7 @@ module _ (font : FontUnits) where
   Unnamed name = name ≡ None
 
   -- a `?` that has its `:` ends with its expression
-  kept_behind : (c v : Found) (fs : List Frame) (unit : Bool) (m : Mark) (at : ℕ) (t : State)
+  kept_behind : (c v : Found) (fs : List OpenFrame) (unit : Bool) (m : Mark) (at : ℕ) (t : ExprState)
       → ((name : Option ℕ) (os : List Opener) → open_behind name (Answered ∷ os) m ≡ open_behind name os m) → Kept font Unnamed fs unit m at t
       → Kept font Unnamed (Else c v ∷ fs) unit m at t
   kept_behind c v fs unit m at t same k = record { valid = k.valid; unit_is = k.unit_is; opens = go }
@@ -93,7 +93,7 @@ module _ (font : FontUnits) where
       go name (Call n ∷ os) e h = elim h.0 [ ]
       go name (Asked ∷ os) e h = elim h.0 [ ]
 
-  sure_behind : (c v : Found) (fs : List Frame) (unit : Bool) (m : Mark) (at : ℕ) (r : Answer State) (a : Ahead) (rights commas : ℕ → Ahead)
+  sure_behind : (c v : Found) (fs : List OpenFrame) (unit : Bool) (m : Mark) (at : ℕ) (r : Answer ExprState) (a : Ahead) (rights commas : ℕ → Ahead)
       → ((name : Option ℕ) (os : List Opener) → open_behind name (Answered ∷ os) m ≡ open_behind name os m)
       → SureIs font a rights commas Unnamed fs unit m at r → SureIs font a rights commas Unnamed (Else c v ∷ fs) unit m at r
   sure_behind c v fs unit m at r a rights commas same (steps t h k l) = steps t h (kept_behind c v fs unit m at t same k) (λ le. l (omega arith))
@@ -109,7 +109,7 @@ module _ (font : FontUnits) where
       miscounts_behind _ k = k
 
   -- a parenthesis or call that ends
-  kept_right : (b : Bracket) (p : Pending) (fs : List Frame) (unit : Bool) (at : ℕ) (y : Found) (s : State) → s.unit ≡ unit
+  kept_right : (b : Bracket) (p : Pending) (fs : List OpenFrame) (unit : Bool) (at : ℕ) (y : Found) (s : ExprState) → s.unit ≡ unit
       → FramesTidy font (Inside b p ∷ fs) → Kept font Unnamed (Inside b p ∷ fs) unit Right at (outside y p fs s)
   kept_right b p fs unit at y s u t = record { valid = record { half = tt; tidy = t.0; frames = t.1 }; unit_is = u; opens = go }
     where
@@ -122,7 +122,7 @@ module _ (font : FontUnits) where
       go name (Asked ∷ os) e h = elim h.0 [ ]
 
   -- a call that goes on
-  kept_comma : (b c : Bracket) (p : Pending) (fs : List Frame) (unit : Bool) (at : ℕ) (s : State) → s.unit ≡ unit → (IsPlain b → ⊥)
+  kept_comma : (b c : Bracket) (p : Pending) (fs : List OpenFrame) (unit : Bool) (at : ℕ) (s : ExprState) → s.unit ≡ unit → (IsPlain b → ⊥)
       → ((n : ℕ) → CalledAt b n → CalledAt c n) → FramesTidy font (Inside b p ∷ fs)
       → Kept font Unnamed (Inside b p ∷ fs) unit Comma at (wanted_in (Inside c p ∷ fs) s)
   kept_comma b c p fs unit at s u not_plain same t = record { valid = record { half = tt; tidy = λ e. refl; frames = t }; unit_is = u; opens = go }
@@ -136,7 +136,7 @@ module _ (font : FontUnits) where
       go name (Asked ∷ os) e h = elim h.0 [ ]
 
   -- a choice that goes on
-  kept_colon : (c v : Found) (fs : List Frame) (unit : Bool) (at : ℕ) (s : State) → s.unit ≡ unit → FramesTidy font (Then c ∷ fs)
+  kept_colon : (c v : Found) (fs : List OpenFrame) (unit : Bool) (at : ℕ) (s : ExprState) → s.unit ≡ unit → FramesTidy font (Then c ∷ fs)
       → Kept font Unnamed (Then c ∷ fs) unit Colon at (wanted_in (Else c v ∷ fs) s)
   kept_colon c v fs unit at s u t = record { valid = record { half = tt; tidy = λ e. refl; frames = t }; unit_is = u; opens = go }
     where
@@ -151,11 +151,11 @@ module _ (font : FontUnits) where
   -- ---- the three marks
 
   -- behind an expression with that value
-  abbrev pub EndIs : List Frame → Found → Bool → Mark → ℕ → Answer State → Type 0
+  abbrev pub EndIs : List OpenFrame → Found → Bool → Mark → ℕ → Answer ExprState → Type 0
   EndIs fs y unit m at r = SureIs font (λ ps v. ends_in font fs v y (piece m at ∷ ps)) (λ k ps v. ends_in font fs v y (piece Right k ∷ ps))
       (λ k ps v. ends_in font fs v y (piece Comma k ∷ ps)) Unnamed fs unit m at r
 
-  right_in : (b : Bracket) (p : Pending) (fs : List Frame) (y : Found) (unit : Bool) (at : ℕ) (s : State) → s.unit ≡ unit
+  right_in : (b : Bracket) (p : Pending) (fs : List OpenFrame) (y : Found) (unit : Bool) (at : ℕ) (s : ExprState) → s.unit ≡ unit
       → FramesTidy font (Inside b p ∷ fs) → EndIs (Inside b p ∷ fs) y unit Right at (bracket_ends at b y p fs s)
   right_in Plain p fs y unit at s u t =
       steps (outside y p fs s) (λ ps v. closed_same (after_primary font p (ends_in font fs v)) y at ps) (kept_right Plain p fs unit at y s u t)
@@ -176,7 +176,7 @@ module _ (font : FontUnits) where
       )) (kept_right (Each f x) p fs unit at (most_found f x y) s u t)
       (λ le. omega arith)
 
-  pub right_is : (fs : List Frame) (y : Found) (unit : Bool) (at : ℕ) (s : State) → s.unit ≡ unit → FramesTidy font fs
+  pub right_is : (fs : List OpenFrame) (y : Found) (unit : Bool) (at : ℕ) (s : ExprState) → s.unit ≡ unit → FramesTidy font fs
       → EndIs fs y unit Right at (at_right at (closed y fs).value (closed y fs).frames s)
   right_is [] y unit at s u t = refuses (λ ps v h. end_of_list font Right at ps refl h.1) (inr tt)
   right_is (Inside b p ∷ fs) y unit at s u t = right_in b p fs y unit at s u t
@@ -184,7 +184,7 @@ module _ (font : FontUnits) where
   right_is (Else c x ∷ fs) y unit at s u t =
       sure_behind c x fs unit Right at _ _ _ _ (λ name os. refl) (right_is fs (choice_found c x y) unit at s u t)
 
-  comma_in : (b : Bracket) (p : Pending) (fs : List Frame) (y : Found) (unit : Bool) (at : ℕ) (s : State) → s.unit ≡ unit
+  comma_in : (b : Bracket) (p : Pending) (fs : List OpenFrame) (y : Found) (unit : Bool) (at : ℕ) (s : ExprState) → s.unit ≡ unit
       → FramesTidy font (Inside b p ∷ fs) → EndIs (Inside b p ∷ fs) y unit Comma at (bracket_goes_on at b y p fs s)
   comma_in Plain p fs y unit at s u t = refuses (λ ps v h. closed_other Comma refl refl (after_primary font p (ends_in font fs v)) y at ps h) (inr tt)
   comma_in (Only f n) p fs y unit at s u t =
@@ -205,7 +205,7 @@ module _ (font : FontUnits) where
       steps (wanted_in (Inside (Each f (Some (most_found f x y))) p ∷ fs) s)
       (λ ps v. let k = after_primary font p (ends_in font fs v) in let w = fresh_whole font (in_bracket font (Each f (Some (most_found f x y))) k) ps in (λ h. w.0 (further_comma k h.read h.goes), λ h. let e = w.1 h in record { value = e.goes.value; rest = e.goes.rest; read = one_further refl e.read e.goes.read; goes = e.goes.goes })) (kept_comma (Each f x) (Each f (Some (most_found f x y))) p fs unit at s u (λ h. h) (λ i h. h) t) (λ le. le)
 
-  pub comma_is : (fs : List Frame) (y : Found) (unit : Bool) (at : ℕ) (s : State) → s.unit ≡ unit → FramesTidy font fs
+  pub comma_is : (fs : List OpenFrame) (y : Found) (unit : Bool) (at : ℕ) (s : ExprState) → s.unit ≡ unit → FramesTidy font fs
       → EndIs fs y unit Comma at (at_comma at (closed y fs).value (closed y fs).frames s)
   comma_is [] y unit at s u t = refuses (λ ps v h. end_of_list font Comma at ps refl h.1) (inr tt)
   comma_is (Inside b p ∷ fs) y unit at s u t = comma_in b p fs y unit at s u t
@@ -213,7 +213,7 @@ module _ (font : FontUnits) where
   comma_is (Else c x ∷ fs) y unit at s u t =
       sure_behind c x fs unit Comma at _ _ _ _ (λ name os. refl) (comma_is fs (choice_found c x y) unit at s u t)
 
-  pub colon_is : (fs : List Frame) (y : Found) (unit : Bool) (at : ℕ) (s : State) → s.unit ≡ unit → FramesTidy font fs
+  pub colon_is : (fs : List OpenFrame) (y : Found) (unit : Bool) (at : ℕ) (s : ExprState) → s.unit ≡ unit → FramesTidy font fs
       → EndIs fs y unit Colon at (at_colon at (closed y fs).value (closed y fs).frames s)
   colon_is [] y unit at s u t = refuses (λ ps v h. end_of_list font Colon at ps refl h.1) tt
   colon_is (Inside b p ∷ fs) y unit at s u t = refuses (λ ps v h. no_colon b (after_primary font p (ends_in font fs v)) y at ps h) tt

@@ -12,13 +12,13 @@ use Rattle.tk_expr.specs.declared.machine.Waiting.{Waiting}
 use Rattle.tk_expr.specs.declared.machine.Pending.{Pending}
 use Rattle.tk_expr.specs.declared.machine.Bracket.{Bracket}
 use Rattle.tk_expr.specs.declared.machine.Bracket.TheVariants.{Plain, Only, First, Second, Each}
-use Rattle.tk_expr.specs.declared.machine.Frame.{Frame}
-use Rattle.tk_expr.specs.declared.machine.Frame.TheVariants.{Inside, Then, Else}
+use Rattle.tk_expr.specs.declared.machine.OpenFrame.{OpenFrame}
+use Rattle.tk_expr.specs.declared.machine.OpenFrame.TheVariants.{Inside, Then, Else}
 use Rattle.tk_expr.specs.declared.machine.Mode.{Mode}
 use Rattle.tk_expr.specs.declared.machine.Mode.TheVariants.{Wanted, Ordered, Half, Named, Dot, Number, Measured, After}
 use Rattle.tk_expr.specs.Evaluates.{valued}
 use Rattle.tk_expr.specs.Grammar.{Precedence, Products, Stands}
-use Rattle.tk_expr.specs.Machine.{Found, State, applied, powered, multiplied, added, compared, conjoined, disjoined, closed, choice_found, operand}
+use Rattle.tk_expr.specs.Machine.{Found, ExprState, applied, powered, multiplied, added, compared, conjoined, disjoined, closed, choice_found, operand}
 use Rattle.tk_expr.specs.Machine.{value_in, finish_behind, finish}
 use Rattle.tk_expr.specs.Number.{plain_value}
 use Rattle.tk_expr.proofs.Readings.{Asks, unasked, asked, group, Part, primary_part, postfix_part, prefixed_part, Goes, stays, on_unit, on_radians}
@@ -119,12 +119,12 @@ module _ (font : FontUnits) where
   -- ---- the state behind the last piece
 
   -- the last operand, with what is open round it
-  pub record Last (s : State) (v : Found) : Type 0 where
+  pub record Last (s : ExprState) (v : Found) : Type 0 where
     pub value : Found
     pub is : operand font s.mode ≡ Some value
     pub ends : ends_in font s.frames v (disjoined s.pending value) []
 
-  last_in : (m : Mode) (p : Pending) (fs : List Frame) (unit : Bool) (v : Found) → in_mode font m p (ends_in font fs v) []
+  last_in : (m : Mode) (p : Pending) (fs : List OpenFrame) (unit : Bool) (v : Found) → in_mode font m p (ends_in font fs v) []
       → Last (record { mode = m; pending = p; frames = fs; unit = unit }) v
   last_in Wanted p fs unit v h = absurd (no_wants p.power p (ends_in font fs v) h)
   last_in Ordered p fs unit v (inl h) = absurd (no_wants p.power p (ends_in font fs v) h)
@@ -141,10 +141,10 @@ module _ (font : FontUnits) where
   last_in (Measured n) p fs unit v h = record { value = plain_value font n; is = refl; ends = settled p (ends_in font fs v) (plain_value font n) h }
   last_in (After x) p fs unit v h = record { value = x; is = refl; ends = settled p (ends_in font fs v) x h }
 
-  pub last_of : (s : State) (v : Found) → Completes font s [] v → Last s v
+  pub last_of : (s : ExprState) (v : Found) → Completes font s [] v → Last s v
   last_of s v h = last_in s.mode s.pending s.frames s.unit v h
 
-  completes_as : (m : Mode) (p : Pending) (fs : List Frame) (v x : Found) → operand font m ≡ Some x → ends_in font fs v (disjoined p x) []
+  completes_as : (m : Mode) (p : Pending) (fs : List OpenFrame) (v x : Found) → operand font m ≡ Some x → ends_in font fs v (disjoined p x) []
       → in_mode font m p (ends_in font fs v) []
   completes_as Wanted p fs v x e h = absurd (some_not_none refl e)
   completes_as Ordered p fs v x e h = absurd (some_not_none refl e)
@@ -168,7 +168,7 @@ module _ (font : FontUnits) where
     finds : (v : Found) → c v → FinishIs c unit end (valued unit v)
     lacks : ((v : Found) → c v → ⊥) → FinishIs c unit end (fault Expression end)
 
-  frames_end : (fs : List Frame) (x : Found) (unit : Bool) (end : ℕ)
+  frames_end : (fs : List OpenFrame) (x : Found) (unit : Bool) (end : ℕ)
       → FinishIs (λ v. ends_in font fs v x []) unit end (value_in end (closed x fs).frames (closed x fs).value unit)
   frames_end [] x unit end = finds x (refl, refl)
   frames_end (Inside b p ∷ fs) x unit end = lacks (λ v h. no_bracket_empty b _ x h)
@@ -180,7 +180,7 @@ module _ (font : FontUnits) where
   finish_as f (finds v h) = finds v ((f v).1 h)
   finish_as f (lacks h) = lacks (λ v x. h v ((f v).0 x))
 
-  pub finish_is : (s : State) (end : ℕ) → FinishIs (λ v. Completes font s [] v) s.unit end (finish font end s)
+  pub finish_is : (s : ExprState) (end : ℕ) → FinishIs (λ v. Completes font s [] v) s.unit end (finish font end s)
   unfolding finish
   finish_is s end = by (operand font s.mode) refl
     where
@@ -193,13 +193,13 @@ module _ (font : FontUnits) where
       )) (frames_end s.frames (disjoined s.pending x) s.unit end)
 
   -- the value is the only one
-  one_end : (fs : List Frame) (v w x : Found) → ends_in font fs v x [] → ends_in font fs w x [] → v ≡ w
+  one_end : (fs : List OpenFrame) (v w x : Found) → ends_in font fs v x [] → ends_in font fs w x [] → v ≡ w
   one_end [] v w x h k = h.0 ∙ sym k.0
   one_end (Inside b p ∷ fs) v w x h k = absurd (no_bracket_empty b _ x h)
   one_end (Then c ∷ fs) v w x (n, qs, b, h) k = absurd (no_piece b)
   one_end (Else c y ∷ fs) v w x h k = one_end fs v w (choice_found c y x) h k
 
-  pub one_value : (s : State) (v w : Found) → Completes font s [] v → Completes font s [] w → v ≡ w
+  pub one_value : (s : ExprState) (v w : Found) → Completes font s [] v → Completes font s [] w → v ≡ w
   one_value s v w h k =
       let l = last_of s v h in
       let m = last_of s w k in

@@ -9,8 +9,8 @@ use Rattle.tk_expr.specs.declared.machine.Waiting.{Waiting}
 use Rattle.tk_expr.specs.declared.machine.Pending.{Pending}
 use Rattle.tk_expr.specs.declared.machine.Bracket.{Bracket}
 use Rattle.tk_expr.specs.declared.machine.Bracket.TheVariants.{Plain, Only, First, Second, Each}
-use Rattle.tk_expr.specs.declared.machine.Frame.{Frame}
-use Rattle.tk_expr.specs.declared.machine.Frame.TheVariants.{Inside, Then, Else}
+use Rattle.tk_expr.specs.declared.machine.OpenFrame.{OpenFrame}
+use Rattle.tk_expr.specs.declared.machine.OpenFrame.TheVariants.{Inside, Then, Else}
 use Rattle.tk_expr.specs.Grammar.{skip, Precedence, Products, Stands}
 use Rattle.tk_expr.specs.Machine.{Found, applied, choice_found}
 use Rattle.tk_expr.proofs.Readings.{Asks, unasked, asked, group, Part, primary_part, postfix_part, prefixed_part, Goes, stays, on_unit, on_radians}
@@ -131,7 +131,7 @@ module _ (font : FontUnits) where
   pass_bracket (Second f i y) k x ps qs e (n, rs, b, h) = (n, rs, sym e ∙ b, h)
   pass_bracket (Each f y) k x ps qs e v = record { value = v.value; rest = v.rest; read = further_alike e v.read; goes = v.goes }
 
-  pub pass_ends : (fs : List Frame) (v : Found) → Passes (ends_in font fs v)
+  pub pass_ends : (fs : List OpenFrame) (v : Found) → Passes (ends_in font fs v)
   pass_ends [] v x ps qs e h = (h.0, sym e ∙ h.1)
   pass_ends (Inside b p ∷ fs) v x ps qs e h = pass_bracket b (after_primary font p (ends_in font fs v)) x ps qs e h
   pass_ends (Then c ∷ fs) v x ps qs e (n, rs, b, h) = (n, rs, sym e ∙ b, h)

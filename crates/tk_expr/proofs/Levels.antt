@@ -12,8 +12,8 @@ use Rattle.tk_expr.specs.declared.machine.Waiting.{Waiting}
 use Rattle.tk_expr.specs.declared.machine.Pending.{Pending}
 use Rattle.tk_expr.specs.declared.machine.Bracket.{Bracket}
 use Rattle.tk_expr.specs.declared.machine.Bracket.TheVariants.{Plain, Only, First, Second, Each}
-use Rattle.tk_expr.specs.declared.machine.Frame.{Frame}
-use Rattle.tk_expr.specs.declared.machine.Frame.TheVariants.{Inside, Then, Else}
+use Rattle.tk_expr.specs.declared.machine.OpenFrame.{OpenFrame}
+use Rattle.tk_expr.specs.declared.machine.OpenFrame.TheVariants.{Inside, Then, Else}
 use Rattle.tk_expr.specs.Grammar.{piece, skip, past_gap, prefix_of, exponent_sign, Precedence, Postfixes, Powers, Products, Sums, Comparisons}
 use Rattle.tk_expr.specs.Grammar.{Conjunctions, Disjunctions, Begins}
 use Rattle.tk_expr.specs.Machine.{Found, no_signs, nothing, with_prefix, signed_found, applied, powered, multiplied, added, compared, conjoined}
@@ -190,7 +190,7 @@ module _ (font : FontUnits) where
       not_empty : piece m at ∷ ps ≡ [] → ⊥
       not_empty e = true≢false (ap (λ (l : List Piece). elim l as (λ _. Bool) [ [] ↦ false | q ∷ qs ↦ true ]) e)
 
-  pub no_ends : (m : Mark) → is_gap m ≡ false → is_end m ≡ false → (fs : List Frame) (v : Found) → Refuses m (ends_in font fs v)
+  pub no_ends : (m : Mark) → is_gap m ≡ false → is_end m ≡ false → (fs : List OpenFrame) (v : Found) → Refuses m (ends_in font fs v)
   no_ends m g e [] v x at ps h = end_of_list m at ps g h.1
   no_ends m g e (Inside b p ∷ fs) v x at ps h = no_bracket m g e b (after_primary font p (ends_in font fs v)) x at ps h
   no_ends m g e (Then c ∷ fs) v x at ps (j, qs, b, h) = no_end m Colon at j ps qs g e refl b

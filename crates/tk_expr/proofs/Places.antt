@@ -37,13 +37,13 @@ use Rattle.tk_expr.specs.declared.machine.Waiting.{Waiting}
 use Rattle.tk_expr.specs.declared.machine.Pending.{Pending}
 use Rattle.tk_expr.specs.declared.machine.Bracket.{Bracket}
 use Rattle.tk_expr.specs.declared.machine.Bracket.TheVariants.{Plain, Only, First, Second, Each}
-use Rattle.tk_expr.specs.declared.machine.Frame.{Frame}
-use Rattle.tk_expr.specs.declared.machine.Frame.TheVariants.{Inside, Then, Else}
+use Rattle.tk_expr.specs.declared.machine.OpenFrame.{OpenFrame}
+use Rattle.tk_expr.specs.declared.machine.OpenFrame.TheVariants.{Inside, Then, Else}
 use Rattle.tk_expr.specs.declared.machine.Mode.{Mode}
 use Rattle.tk_expr.specs.declared.machine.Mode.TheVariants.{Wanted, Ordered, Half, Named, Dot, Number, Measured, After}
 use Rattle.tk_expr.specs.Number.{Decimal, no_digits, with_digit, with_whole_digit, with_point, plain_value}
 use Rattle.tk_expr.specs.Values.{placed}
-use Rattle.tk_expr.specs.Machine.{Found, State, signed_found, applied, powered, multiplied, added, compared, conjoined, disjoined, product_waits}
+use Rattle.tk_expr.specs.Machine.{Found, ExprState, signed_found, applied, powered, multiplied, added, compared, conjoined, disjoined, product_waits}
 use Rattle.tk_expr.specs.Machine.{sum_waits, comparison_waits, waits, waiting_or_same, Closed, choice_found, closed, closed_behind, wanted_in}
 use Rattle.tk_expr.specs.Machine.{with_frame, most_found, bracket_ends, at_right, bracket_goes_on, at_comma, at_colon, to_mode, sign_exponent}
 use Rattle.tk_expr.specs.Machine.{sign_operand, begin, ordered, is_half, half, named, operator, comparison, after, dot, measured, number, step_in}
@@ -122,12 +122,12 @@ module _ (Good : ℕ → Type 0) where
   BracketFine (Second f at x) = (Good at) × Fine x
   BracketFine (Each f x) = OptionFine x
 
-  abbrev FrameFine : Frame → Type 0
+  abbrev FrameFine : OpenFrame → Type 0
   FrameFine (Inside bracket saved) = BracketFine bracket × PendingFine saved
   FrameFine (Then c) = Fine c
   FrameFine (Else c v) = Fine c × Fine v
 
-  abbrev FramesFine : List Frame → Type 0
+  abbrev FramesFine : List OpenFrame → Type 0
   FramesFine [] = Unit {0}
   FramesFine (f ∷ fs) = FrameFine f × FramesFine fs
 
@@ -141,12 +141,12 @@ module _ (Good : ℕ → Type 0) where
   ModeFine (Measured n) = Good n.at
   ModeFine (After x) = Fine x
 
-  record StateFine (s : State) : Type 0 where
+  record StateFine (s : ExprState) : Type 0 where
     mode : ModeFine s.mode
     pending : PendingFine s.pending
     frames : FramesFine s.frames
 
-  abbrev Stays : Answer State → Type 0
+  abbrev Stays : Answer ExprState → Type 0
   Stays m = Holds StateFine Early m
 
   -- ---- operators
@@ -261,16 +261,16 @@ module _ (Good : ℕ → Type 0) where
     value : Fine c.value
     frames : FramesFine c.frames
 
-  closed_fine : (v : Found) (fs : List Frame) → Fine v → FramesFine fs → ClosedFine (closed v fs)
+  closed_fine : (v : Found) (fs : List OpenFrame) → Fine v → FramesFine fs → ClosedFine (closed v fs)
   closed_fine v [] h k = record { value = h; frames = tt }
   closed_fine v (Inside bracket saved ∷ fs) h k = record { value = h; frames = k }
   closed_fine v (Then c ∷ fs) h k = record { value = h; frames = k }
   closed_fine v (Else c x ∷ fs) h k = closed_fine (choice_found c x v) fs (choice_fine c x v k.0.0 k.0.1 h) k.1
 
-  behind_fine : (x : Found) (s : State) → Fine x → StateFine s → ClosedFine (closed_behind x s)
+  behind_fine : (x : Found) (s : ExprState) → Fine x → StateFine s → ClosedFine (closed_behind x s)
   behind_fine x s k h = closed_fine (disjoined s.pending x) s.frames (disjoined_fine s.pending x h.pending k) h.frames
 
-  nothing_fine : (fs : List Frame) (s : State) → FramesFine fs → StateFine (wanted_in fs s)
+  nothing_fine : (fs : List OpenFrame) (s : ExprState) → FramesFine fs → StateFine (wanted_in fs s)
   nothing_fine fs s h = record {
     mode = tt;
     pending = record {
@@ -284,10 +284,10 @@ module _ (Good : ℕ → Type 0) where
     frames = h;
   }
 
-  opened_fine : (at : ℕ) (f : Frame) (s : State) → Good at → FrameFine f → StateFine s → Stays (with_frame at f s)
+  opened_fine : (at : ℕ) (f : OpenFrame) (s : ExprState) → Good at → FrameFine f → StateFine s → Stays (with_frame at f s)
   opened_fine at f s e k h = holds_if StateFine Early (nat_lt (length s.frames) 64) _ _ (nothing_fine (f ∷ s.frames) s (k, h.frames)) e
 
-  outside_fine : (v : Found) (p : Pending) (fs : List Frame) (s : State) → Fine v → PendingFine p → FramesFine fs
+  outside_fine : (v : Found) (p : Pending) (fs : List OpenFrame) (s : ExprState) → Fine v → PendingFine p → FramesFine fs
       → StateFine (record { mode = After v; pending = p; frames = fs; unit = s.unit })
   outside_fine v p fs s h k l = record { mode = h; pending = k; frames = l }
 
@@ -295,7 +295,7 @@ module _ (Good : ℕ → Type 0) where
   most_fine f None y h k = k
   most_fine f (Some x) y h k = fine_then x _ h (λ v. fine_then y _ k (λ w. tt))
 
-  ends_fine : (at : ℕ) (b : Bracket) (v : Found) (p : Pending) (fs : List Frame) (s : State) → Good at → BracketFine b → Fine v → PendingFine p
+  ends_fine : (at : ℕ) (b : Bracket) (v : Found) (p : Pending) (fs : List OpenFrame) (s : ExprState) → Good at → BracketFine b → Fine v → PendingFine p
       → FramesFine fs → Stays (bracket_ends at b v p fs s)
   ends_fine at Plain v p fs s e k h i j = outside_fine v p fs s h i j
   ends_fine at (Only f name) v p fs s e k h i j = outside_fine _ p fs s (fine_then v _ h (λ _. placed_fine name _ k)) i j
@@ -304,13 +304,13 @@ module _ (Good : ℕ → Type 0) where
       outside_fine _ p fs s (fine_then x _ k.1 (λ _. fine_then v _ h (λ _. placed_fine name _ k.0))) i j
   ends_fine at (Each f x) v p fs s e k h i j = outside_fine _ p fs s (most_fine f x v k h) i j
 
-  right_fine : (at : ℕ) (v : Found) (fs : List Frame) (s : State) → Good at → Fine v → FramesFine fs → Stays (at_right at v fs s)
+  right_fine : (at : ℕ) (v : Found) (fs : List OpenFrame) (s : ExprState) → Good at → Fine v → FramesFine fs → Stays (at_right at v fs s)
   right_fine at v [] s e h k = e
   right_fine at v (Inside bracket saved ∷ fs) s e h k = ends_fine at bracket v saved fs s e k.0.0 h k.0.1 k.1
   right_fine at v (Then c ∷ fs) s e h k = e
   right_fine at v (Else c x ∷ fs) s e h k = e
 
-  goes_on_fine : (at : ℕ) (b : Bracket) (v : Found) (p : Pending) (fs : List Frame) (s : State) → Good at → BracketFine b → Fine v → PendingFine p
+  goes_on_fine : (at : ℕ) (b : Bracket) (v : Found) (p : Pending) (fs : List OpenFrame) (s : ExprState) → Good at → BracketFine b → Fine v → PendingFine p
       → FramesFine fs → Stays (bracket_goes_on at b v p fs s)
   goes_on_fine at Plain v p fs s e k h i j = e
   goes_on_fine at (Only f name) v p fs s e k h i j = k
@@ -318,13 +318,13 @@ module _ (Good : ℕ → Type 0) where
   goes_on_fine at (Second f name x) v p fs s e k h i j = k.0
   goes_on_fine at (Each f x) v p fs s e k h i j = nothing_fine (Inside (Each f (Some (most_found f x v))) p ∷ fs) s ((most_fine f x v k h, i), j)
 
-  comma_fine : (at : ℕ) (v : Found) (fs : List Frame) (s : State) → Good at → Fine v → FramesFine fs → Stays (at_comma at v fs s)
+  comma_fine : (at : ℕ) (v : Found) (fs : List OpenFrame) (s : ExprState) → Good at → Fine v → FramesFine fs → Stays (at_comma at v fs s)
   comma_fine at v [] s e h k = e
   comma_fine at v (Inside bracket saved ∷ fs) s e h k = goes_on_fine at bracket v saved fs s e k.0.0 h k.0.1 k.1
   comma_fine at v (Then c ∷ fs) s e h k = e
   comma_fine at v (Else c x ∷ fs) s e h k = e
 
-  colon_fine : (at : ℕ) (v : Found) (fs : List Frame) (s : State) → Good at → Fine v → FramesFine fs → Stays (at_colon at v fs s)
+  colon_fine : (at : ℕ) (v : Found) (fs : List OpenFrame) (s : ExprState) → Good at → Fine v → FramesFine fs → Stays (at_colon at v fs s)
   colon_fine at v [] s e h k = e
   colon_fine at v (Inside bracket saved ∷ fs) s e h k = e
   colon_fine at v (Then c ∷ fs) s e h k = nothing_fine (Else c v ∷ fs) s ((k.0, h), k.1)
@@ -332,13 +332,13 @@ module _ (Good : ℕ → Type 0) where
 
   -- ---- one piece
 
-  mode_fine : (m : Mode) (s : State) → ModeFine m → StateFine s → Stays (to_mode m s)
+  mode_fine : (m : Mode) (s : ExprState) → ModeFine m → StateFine s → Stays (to_mode m s)
   mode_fine m s k h = record { mode = k; pending = h.pending; frames = h.frames }
 
-  same_pending : (m : Mode) (s : State) (p : Pending) → ModeFine m → PendingFine p → StateFine s → StateFine (record s { mode = m; pending = p })
+  same_pending : (m : Mode) (s : ExprState) (p : Pending) → ModeFine m → PendingFine p → StateFine s → StateFine (record s { mode = m; pending = p })
   same_pending m s p k l h = record { mode = k; pending = l; frames = h.frames }
 
-  exponent_fine : (sign : Prefix) (at : ℕ) (s : State) → Good at → StateFine s → Stays (sign_exponent sign at s)
+  exponent_fine : (sign : Prefix) (at : ℕ) (s : ExprState) → Good at → StateFine s → Stays (sign_exponent sign at s)
   exponent_fine Not at s e h = e
   exponent_fine Negate at s e h = record {
     mode = tt;
@@ -365,7 +365,7 @@ module _ (Good : ℕ → Type 0) where
     frames = h.frames;
   }
 
-  operand_fine : (w : Option Waiting) (sign : Prefix) (at : ℕ) (s : State) → Good at → StateFine s → Stays (sign_operand w sign at s)
+  operand_fine : (w : Option Waiting) (sign : Prefix) (at : ℕ) (s : ExprState) → Good at → StateFine s → Stays (sign_operand w sign at s)
   operand_fine None sign at s e h = record {
     mode = tt;
     pending = (let p = h.pending in record {
@@ -380,7 +380,7 @@ module _ (Good : ℕ → Type 0) where
   }
   operand_fine (Some w) sign at s e h = exponent_fine sign at s e h
 
-  begin_fine : (m : Mark) (at : ℕ) (s : State) → Good at → StateFine s → Stays (begin m at s)
+  begin_fine : (m : Mark) (at : ℕ) (s : ExprState) → Good at → StateFine s → Stays (begin m at s)
   begin_fine (Digit d) at s e h = mode_fine _ s e h
   begin_fine Dots at s e h = mode_fine _ s e h
   begin_fine Pi at s e h = mode_fine _ s tt h
@@ -394,7 +394,7 @@ module _ (Good : ℕ → Type 0) where
   begin_fine Gap at s e h = mode_fine Wanted s tt h
   begin_fine _ at s e h = e
 
-  ordered_fine : (m : Mark) (at : ℕ) (s : State) → Good at → StateFine s → Stays (ordered m at s)
+  ordered_fine : (m : Mark) (at : ℕ) (s : ExprState) → Good at → StateFine s → Stays (ordered m at s)
   ordered_fine Equals at s e h = record {
     mode = tt;
     pending = (let p = h.pending in record {
@@ -409,23 +409,23 @@ module _ (Good : ℕ → Type 0) where
   }
   ordered_fine mark at s e h = begin_fine mark at s e h
 
-  half_fine : (w m : Mark) (at : ℕ) (s : State) → Good at → StateFine s → Stays (half w m at s)
+  half_fine : (w m : Mark) (at : ℕ) (s : ExprState) → Good at → StateFine s → Stays (half w m at s)
   half_fine w m at s e h = holds_if StateFine Early (is_half w m) _ _ (mode_fine Wanted s tt h) e
 
-  named_fine : (b : Bracket) (m : Mark) (at : ℕ) (s : State) → Good at → BracketFine b → StateFine s → Stays (named b m at s)
+  named_fine : (b : Bracket) (m : Mark) (at : ℕ) (s : ExprState) → Good at → BracketFine b → StateFine s → Stays (named b m at s)
   named_fine b Left at s e k h = opened_fine at (Inside b s.pending) s e (k, h.pending) h
   named_fine b Gap at s e k h = mode_fine (Named b) s k h
   named_fine b _ at s e k h = e
 
-  operator_fine : (o : Operator) (m : Mode) (at : ℕ) (x : Found) (s : State) → Good at → ModeFine m → Fine x → StateFine s
+  operator_fine : (o : Operator) (m : Mode) (at : ℕ) (x : Found) (s : ExprState) → Good at → ModeFine m → Fine x → StateFine s
       → Stays (operator o m at x s)
   operator_fine o m at x s e i k h = same_pending m s (waits o at x s.pending) i (waits_fine o at x s.pending e k h.pending) h
 
-  a_comparison_fine : (o : Operator) (m : Mode) (at : ℕ) (x : Found) (s : State) → Good at → ModeFine m → Fine x → StateFine s
+  a_comparison_fine : (o : Operator) (m : Mode) (at : ℕ) (x : Found) (s : ExprState) → Good at → ModeFine m → Fine x → StateFine s
       → Stays (comparison o m at x s)
   a_comparison_fine o m at x s e i k h = holds_if StateFine Early (is_some s.pending.comparison) _ _ e (operator_fine o m at x s e i k h)
 
-  after_fine : (font : FontUnits) (x : Found) (m : Mark) (at : ℕ) (s : State) → Good at → Fine x → StateFine s → Stays (after font x m at s)
+  after_fine : (font : FontUnits) (x : Found) (m : Mark) (at : ℕ) (s : ExprState) → Good at → Fine x → StateFine s → Stays (after font x m at s)
   after_fine font x (Measure unit) at s e k h = record { mode = fine_then x _ k (λ v. placed_fine at _ e); pending = h.pending; frames = h.frames }
   after_fine font x Radian at s e k h = mode_fine _ s (fine_then x _ k (λ v. placed_fine at _ e)) h
   after_fine font x Caret at s e k h = operator_fine Raise Wanted at x s e tt k h
@@ -454,22 +454,22 @@ module _ (Good : ℕ → Type 0) where
       at true false = h
       at false c = h
 
-  dot_fine : (place : ℕ) (m : Mark) (at : ℕ) (s : State) → Good at → Good place → StateFine s → Stays (dot place m at s)
+  dot_fine : (place : ℕ) (m : Mark) (at : ℕ) (s : ExprState) → Good at → Good place → StateFine s → Stays (dot place m at s)
   dot_fine place (Digit d) at s e k h = mode_fine _ s (digit_fine d (no_digits true place) k) h
   dot_fine place _ at s e k h = e
 
-  measured_fine : (font : FontUnits) (n : Decimal) (m : Mark) (at : ℕ) (s : State) → Good at → Good n.at → StateFine s
+  measured_fine : (font : FontUnits) (n : Decimal) (m : Mark) (at : ℕ) (s : ExprState) → Good at → Good n.at → StateFine s
       → Stays (measured font n m at s)
   measured_fine font n (Measure unit) at s e k h = record { mode = placed_fine n.at _ k; pending = h.pending; frames = h.frames }
   measured_fine font n Gap at s e k h = mode_fine (Measured n) s k h
   measured_fine font n mark at s e k h = after_fine font (plain_value font n) mark at s e (placed_fine n.at _ k) h
 
-  number_fine : (font : FontUnits) (n : Decimal) (m : Mark) (at : ℕ) (s : State) → Good at → Good n.at → StateFine s → Stays (number font n m at s)
+  number_fine : (font : FontUnits) (n : Decimal) (m : Mark) (at : ℕ) (s : ExprState) → Good at → Good n.at → StateFine s → Stays (number font n m at s)
   number_fine font n (Digit d) at s e k h = mode_fine _ s (digit_fine d n k) h
   number_fine font n Dots at s e k h = holds_if StateFine Early n.pointed _ _ e (mode_fine (Number (with_point n)) s k h)
   number_fine font n mark at s e k h = measured_fine font n mark at s e k h
 
-  mode_step : (font : FontUnits) (m : Mode) (mark : Mark) (at : ℕ) (s : State) → Good at → ModeFine m → StateFine s → Stays (step_in font m mark at s)
+  mode_step : (font : FontUnits) (m : Mode) (mark : Mark) (at : ℕ) (s : ExprState) → Good at → ModeFine m → StateFine s → Stays (step_in font m mark at s)
   mode_step font Wanted mark at s e k h = begin_fine mark at s e h
   mode_step font Ordered mark at s e k h = ordered_fine mark at s e h
   mode_step font (Half wanted) mark at s e k h = half_fine wanted mark at s e h
@@ -479,7 +479,7 @@ module _ (Good : ℕ → Type 0) where
   mode_step font (Measured n) mark at s e k h = measured_fine font n mark at s e k h
   mode_step font (After x) mark at s e k h = after_fine font x mark at s e k h
 
-  step_fine : (font : FontUnits) (s : State) (p : Piece) → Good p.at → StateFine s → Stays (step font s p)
+  step_fine : (font : FontUnits) (s : ExprState) (p : Piece) → Good p.at → StateFine s → Stays (step font s p)
   unfolding step
   step_fine font s p e h = mode_step font s.mode p.mark p.at s e h.mode h
 
@@ -488,18 +488,18 @@ module _ (Good : ℕ → Type 0) where
   abbrev PiecesFine : List Piece → Type 0
   PiecesFine ps = AllByRecursion (λ (p : Piece). Good p.at) ps
 
-  run_fine : (font : FontUnits) (s : State) (ps : List Piece) → PiecesFine ps → StateFine s → Stays (run font s ps)
+  run_fine : (font : FontUnits) (s : ExprState) (ps : List Piece) → PiecesFine ps → StateFine s → Stays (run font s ps)
   run_fine font s [] e h = h
   run_fine font s (p ∷ ps) e h = holds_then StateFine StateFine Early (step font s p) _ (step_fine font s p e.0 h) (λ t k. run_fine font t ps e.1 k)
 
-  value_fine : (end : ℕ) (fs : List Frame) (v : Found) (unit : Bool) → Good end → Fine v → Fine (value_in end fs v unit)
+  value_fine : (end : ℕ) (fs : List OpenFrame) (v : Found) (unit : Bool) → Good end → Fine v → Fine (value_in end fs v unit)
   value_fine end [] v unit e h = fine_then v _ h (λ n. tt)
   value_fine end (f ∷ fs) v unit e h = e
 
-  last_fine : (end : ℕ) (x : Found) (s : State) → Good end → Fine x → StateFine s → Fine (finish_behind end (Some x) s)
+  last_fine : (end : ℕ) (x : Found) (s : ExprState) → Good end → Fine x → StateFine s → Fine (finish_behind end (Some x) s)
   last_fine end x s e k h = value_fine end _ _ s.unit e (behind_fine x s k h).value
 
-  mode_last : (font : FontUnits) (m : Mode) (end : ℕ) (s : State) → Good end → ModeFine m → StateFine s → Fine (finish_behind end (operand font m) s)
+  mode_last : (font : FontUnits) (m : Mode) (end : ℕ) (s : ExprState) → Good end → ModeFine m → StateFine s → Fine (finish_behind end (operand font m) s)
   mode_last font (Number n) end s e k h = last_fine end _ s e (placed_fine n.at _ k) h
   mode_last font (Measured n) end s e k h = last_fine end _ s e (placed_fine n.at _ k) h
   mode_last font (After x) end s e k h = last_fine end x s e k h
@@ -509,7 +509,7 @@ module _ (Good : ℕ → Type 0) where
   mode_last font (Named bracket) end s e k h = e
   mode_last font (Dot place) end s e k h = e
 
-  finish_fine : (font : FontUnits) (end : ℕ) (s : State) → Good end → StateFine s → Fine (finish font end s)
+  finish_fine : (font : FontUnits) (end : ℕ) (s : ExprState) → Good end → StateFine s → Fine (finish font end s)
   unfolding finish
   finish_fine font end s e h = mode_last font s.mode end s e h.mode h
 

@@ -27,8 +27,8 @@ use Rattle.tk_expr.specs.declared.pieces.Mark.TheVariants.{Comma, Right}
 use Rattle.tk_expr.specs.declared.pieces.Piece.{Piece}
 use Rattle.tk_expr.specs.declared.machine.Bracket.{Bracket}
 use Rattle.tk_expr.specs.declared.machine.Bracket.TheVariants.{Plain, Only, First, Second, Each}
-use Rattle.tk_expr.specs.declared.machine.Frame.{Frame}
-use Rattle.tk_expr.specs.declared.machine.Frame.TheVariants.{Inside, Then, Else}
+use Rattle.tk_expr.specs.declared.machine.OpenFrame.{OpenFrame}
+use Rattle.tk_expr.specs.declared.machine.OpenFrame.TheVariants.{Inside, Then, Else}
 use Rattle.tk_expr.specs.Tree.{Tree, value}
 use Rattle.tk_expr.specs.Grammar.{piece, IsText}
 use Rattle.tk_expr.specs.Faults.{IsBeginning, Opener, Parenthesis, Call, Asked, Answered, unanswered, name_behind, open_behind, open_from, open_in}
@@ -37,7 +37,7 @@ use Rattle.tk_token.specs.Places.{end_of}
 use Rattle.tk_expr.specs.Evaluates.{is_unit, has_unit, valued, IsMisfit, IsTooDeep, IsAnswer, evaluates, misfit, miscount, too_deep, ends, Evaluates}
 use Rattle.tk_expr.specs.Evaluated.{evaluated}
 use Rattle.tk_expr.specs.Pieces.{pieces_of}
-use Rattle.tk_expr.specs.Machine.{Found, State, start, step, run, finish}
+use Rattle.tk_expr.specs.Machine.{Found, ExprState, start, step, run, finish}
 use Rattle.tk_expr.proofs.Closing.{completes}
 use Rattle.tk_expr.proofs.Continuations.{ends_in, in_mode, Completes}
 use Rattle.tk_expr.proofs.Finishing.{FinishIs, finds, lacks, finish_is, one_value}
@@ -51,7 +51,7 @@ use Rattle.tk_expr.proofs.Trees.{read_expression, tell_whole}
 -- ---- openers
 
 -- frames without each `?` on top that has its `:`
-no_call : (fs : List Frame) (os rest : List Opener) (n : ℕ) → NoCall fs → Opens fs os → unanswered os ≡ Call n ∷ rest → ⊥
+no_call : (fs : List OpenFrame) (os rest : List Opener) (n : ℕ) → NoCall fs → Opens fs os → unanswered os ≡ Call n ∷ rest → ⊥
 no_call [] [] rest n h o e = not_call e
   where
     not_call : {rest : List Opener} {n : ℕ} → [] ≡ Call n ∷ rest → ⊥
@@ -89,7 +89,7 @@ plain_call (First f i) n h k = elim k [ ]
 plain_call (Second f i x) n h k = elim k [ ]
 plain_call (Each f x) n h k = elim k [ ]
 
-in_call : (fs : List Frame) (os : List Opener) (n : ℕ) → InCall fs n → Opens fs os → (rest : List Opener) × (unanswered os ≡ Call n ∷ rest)
+in_call : (fs : List OpenFrame) (os : List Opener) (n : ℕ) → InCall fs n → Opens fs os → (rest : List Opener) × (unanswered os ≡ Call n ∷ rest)
 in_call [] os n h o = elim h [ ]
 in_call (f ∷ fs) [] n h o = elim o [ ]
 in_call (Inside b p ∷ fs) (Parenthesis ∷ os) n h o = absurd (plain_call b n h o.0)
@@ -102,7 +102,7 @@ in_call (Else c v ∷ fs) (Parenthesis ∷ os) n h o = elim o.0 [ ]
 in_call (Else c v ∷ fs) (Call m ∷ os) n h o = elim o.0 [ ]
 in_call (Else c v ∷ fs) (Asked ∷ os) n h o = elim o.0 [ ]
 
-same_length : (fs : List Frame) (os : List Opener) → Opens fs os → length os ≡ length fs
+same_length : (fs : List OpenFrame) (os : List Opener) → Opens fs os → length os ≡ length fs
 same_length [] [] o = refl
 same_length [] (_ ∷ os) o = elim o [ ]
 same_length (f ∷ fs) [] o = elim o [ ]
@@ -182,7 +182,7 @@ module _ (font : FontUnits) where
   -- ---- what was read
 
   -- the state behind those pieces
-  record Reached (before : List Piece) (s : State) : Type 0 where
+  record Reached (before : List Piece) (s : ExprState) : Type 0 where
     same : (ps : List Piece) (v : Found) → Completes font start (before ++ ps) v ↔ Completes font s ps v
     valid : Valid font s
     unit : (ps : List Piece) → has_unit (before ++ ps) ≡ s.unit || has_unit ps
@@ -208,33 +208,33 @@ module _ (font : FontUnits) where
     few = zero-le;
   }
 
-  open_now : {before : List Piece} {s : State} (r : Reached before s) → open_in before ≡ r.openers
+  open_now : {before : List Piece} {s : ExprState} (r : Reached before s) → open_in before ≡ r.openers
   open_now {before = before} r = ap open_in (sym (append-nil before)) ∙ r.open_is []
 
   -- the state's mark and place in front
-  abbrev In : State → Mark → ℕ → Ahead
+  abbrev In : ExprState → Mark → ℕ → Ahead
   In s m at ps v = in_mode font s.mode s.pending (ends_in font s.frames v) (piece m at ∷ ps)
 
   one_more : (before : List Piece) (p : Piece) (ps : List Piece) → (before ++ p ∷ []) ++ ps ≡ before ++ p ∷ ps
   one_more before p ps = append_assoc before (p ∷ []) ps
 
   -- texts that go on behind one more piece
-  same_next : {before : List Piece} {s : State} (r : Reached before s) (p : Piece) (t : State) → Same font (In s p.mark p.at) (Completes font t)
+  same_next : {before : List Piece} {s : ExprState} (r : Reached before s) (p : Piece) (t : ExprState) → Same font (In s p.mark p.at) (Completes font t)
       → (ps : List Piece) (v : Found) → Completes font start ((before ++ p ∷ []) ++ ps) v ↔ Completes font t ps v
   same_next {before = before} r p t h ps v =
       let a = r.same (p ∷ ps) v in
       let b = h ps v in
       subst (λ (l : List Piece). Completes font start l v ↔ Completes font t ps v) (sym (one_more before p ps)) (λ x. b.0 (a.0 x), λ x. a.1 (b.1 x))
 
-  open_next : {before : List Piece} {s : State} (r : Reached before s) (p : Piece) → open_in (before ++ p ∷ []) ≡ open_behind r.name r.openers p.mark
+  open_next : {before : List Piece} {s : ExprState} (r : Reached before s) (p : Piece) → open_in (before ++ p ∷ []) ≡ open_behind r.name r.openers p.mark
   open_next r p = r.open_is (p ∷ [])
 
-  length_next : {before : List Piece} {s : State} (r : Reached before s) (p : Piece) (t : State)
+  length_next : {before : List Piece} {s : ExprState} (r : Reached before s) (p : Piece) (t : ExprState)
       → Kept font (NamedAt s.mode) s.frames s.unit p.mark p.at t → length (open_in (before ++ p ∷ [])) ≡ length t.frames
   length_next r p t k =
       ap length (open_next r p) ∙ same_length t.frames (open_behind r.name r.openers p.mark) (k.opens r.name r.openers r.named r.opens).0
 
-  reached_next : {before : List Piece} {s : State} (r : Reached before s) (p : Piece) (t : State) → Same font (In s p.mark p.at) (Completes font t)
+  reached_next : {before : List Piece} {s : ExprState} (r : Reached before s) (p : Piece) (t : ExprState) → Same font (In s p.mark p.at) (Completes font t)
       → Kept font (NamedAt s.mode) s.frames s.unit p.mark p.at t → length t.frames ≤ 64 → Reached (before ++ p ∷ []) t
   reached_next {before = before} {s = s} r p t h k le =
       let o = k.opens r.name r.openers r.named r.opens in
@@ -256,12 +256,12 @@ module _ (font : FontUnits) where
   beginning_at : (before ps : List Piece) (v : Found) → Completes font start (before ++ ps) v → IsBeginning before
   beginning_at before ps v h = let t = text_out (before ++ ps) v h in record { rest = ps; tree = t.tree; reads = t.text }
 
-  beginning_now : {before : List Piece} {s : State} → Reached before s → IsBeginning before
+  beginning_now : {before : List Piece} {s : ExprState} → Reached before s → IsBeginning before
   beginning_now {before = before} {s = s} r =
       let e = completes font s r.valid.half r.valid.tidy in beginning_at before e.0 e.1 ((r.same e.0 e.1).1 e.2)
 
   -- a beginning with one more piece goes on from the state
-  goes_on : {before : List Piece} {s : State} (r : Reached before s) (p : Piece) → IsBeginning (before ++ p ∷ [])
+  goes_on : {before : List Piece} {s : ExprState} (r : Reached before s) (p : Piece) → IsBeginning (before ++ p ∷ [])
       → (ps : List Piece) × (v : Found) × Completes font s (p ∷ ps) v
   goes_on {before = before} r p b =
       let v = value font b.tree in (
@@ -271,7 +271,7 @@ module _ (font : FontUnits) where
             (text_in ((before ++ p ∷ []) ++ b.rest) b.tree b.reads)),
       )
 
-  beginning_next : {before : List Piece} {s : State} (r : Reached before s) (p : Piece) (ps : List Piece) (v : Found) → Completes font s (p ∷ ps) v
+  beginning_next : {before : List Piece} {s : ExprState} (r : Reached before s) (p : Piece) (ps : List Piece) (v : Found) → Completes font s (p ∷ ps) v
       → IsBeginning (before ++ p ∷ [])
   beginning_next {before = before} r p ps v h =
       beginning_at (before ++ p ∷ []) ps v (subst (λ (l : List Piece). Completes font start l v) (sym (one_more before p ps))
@@ -280,18 +280,18 @@ module _ (font : FontUnits) where
   -- ---- counts of arguments
 
   -- none is there where the other mark doesn't fit, or what is open is no call
-  no_other : {before : List Piece} {s : State} (r : Reached before s) (n : Mark) (at name : ℕ) (os : List Opener)
+  no_other : {before : List Piece} {s : ExprState} (r : Reached before s) (n : Mark) (at name : ℕ) (os : List Opener)
       → ((k : ℕ) (ps : List Piece) (v : Found) → In s n k ps v → ⊥) ⊎ NoCall s.frames → unanswered (open_in before) ≡ Call name ∷ os
       → IsBeginning (before ++ piece n at ∷ []) → ⊥
   no_other r n at name os (inl h) e b = let g = goes_on r (piece n at) b in h at g.0 g.1 g.2
   no_other {s = s} r n at name os (inr h) e b = no_call s.frames r.openers os name h r.opens (ap unanswered (sym (open_now r)) ∙ e)
 
-  not_miscount : {before : List Piece} {s : State} {m : Mark} {name : ℕ} (r : Reached before s) → IsMiscount before name m
+  not_miscount : {before : List Piece} {s : ExprState} {m : Mark} {name : ℕ} (r : Reached before s) → IsMiscount before name m
       → NoMiscount (In s Right) (In s Comma) s.frames m → ⊥
   not_miscount {name = name} r (too_many at {openers = os} e b) h = no_other r Right at name os h e b
   not_miscount {name = name} r (too_few at {openers = os} e b) h = no_other r Comma at name os h e b
 
-  is_miscount : {before : List Piece} {s : State} (r : Reached before s) (m : Mark) (name : ℕ) → Miscounts (In s Right) (In s Comma) s.frames name m
+  is_miscount : {before : List Piece} {s : ExprState} (r : Reached before s) (m : Mark) (name : ℕ) → Miscounts (In s Right) (In s Comma) s.frames name m
       → IsMiscount before name m
   is_miscount {before = before} {s = s} r Comma name (c, h) =
       let i = in_call s.frames r.openers name c r.opens in let g = h 0 in too_many 0 (ap unanswered (open_now r) ∙ i.1)
@@ -303,7 +303,7 @@ module _ (font : FontUnits) where
 
   -- ---- the whole run
 
-  misfit_at : {before : List Piece} {s : State} (r : Reached before s) (p : Piece) (ps : List Piece)
+  misfit_at : {before : List Piece} {s : ExprState} (r : Reached before s) (p : Piece) (ps : List Piece)
       → ((ps : List Piece) (v : Found) → In s p.mark p.at ps v → ⊥) → IsMisfit (before ++ p ∷ ps) before p
   misfit_at r p ps h = record {
     rest = ps;
@@ -313,7 +313,7 @@ module _ (font : FontUnits) where
     fits_not = λ b. let g = goes_on r p b in h g.0 g.1 g.2;
   }
 
-  too_deep_at : {before : List Piece} {s : State} (r : Reached before s) (p : Piece) (ps : List Piece) (t : State)
+  too_deep_at : {before : List Piece} {s : ExprState} (r : Reached before s) (p : Piece) (ps : List Piece) (t : ExprState)
       → Same font (In s p.mark p.at) (Completes font t) → Kept font (NamedAt s.mode) s.frames s.unit p.mark p.at t → 64 ≤ length s.frames
       → length t.frames ≡ suc (length s.frames) → IsTooDeep (before ++ p ∷ ps) before p
   too_deep_at {before = before} {s = s} r p ps t h k many more =
@@ -328,9 +328,9 @@ module _ (font : FontUnits) where
         deep = omega (arith, few, many, more, long);
       }
 
-  from_sure : (end : ℕ) {before : List Piece} {s : State} (r : Reached before s) (p : Piece) (ps : List Piece) (m : Answer State)
+  from_sure : (end : ℕ) {before : List Piece} {s : ExprState} (r : Reached before s) (p : Piece) (ps : List Piece) (m : Answer ExprState)
       → SureIs font (In s p.mark p.at) (In s Right) (In s Comma) (NamedAt s.mode) s.frames s.unit p.mark p.at m
-      → ((t : State) → Reached (before ++ p ∷ []) t → IsAnswer font end ((before ++ p ∷ []) ++ ps) (run font t ps >>= finish font end))
+      → ((t : ExprState) → Reached (before ++ p ∷ []) t → IsAnswer font end ((before ++ p ∷ []) ++ ps) (run font t ps >>= finish font end))
       → IsAnswer font end (before ++ p ∷ ps) ((m >>= λ t. run font t ps) >>= finish font end)
   from_sure end {before = before} r p ps m (steps t h k le) on =
       subst (λ (l : List Piece). IsAnswer font end l (run font t ps >>= finish font end)) (one_more before p ps)
@@ -338,9 +338,9 @@ module _ (font : FontUnits) where
   from_sure end {before = before} r p ps m (refuses h k) on = misfit (misfit_at r p ps h) (λ name i. not_miscount r i k)
   from_sure end {before = before} r p ps m (miscounts name h k) on = miscount (misfit_at r p ps h) (is_miscount r p.mark name k)
 
-  from_step : (end : ℕ) {before : List Piece} {s : State} (r : Reached before s) (p : Piece) (ps : List Piece) (m : Answer State)
+  from_step : (end : ℕ) {before : List Piece} {s : ExprState} (r : Reached before s) (p : Piece) (ps : List Piece) (m : Answer ExprState)
       → StepIs font (In s p.mark p.at) (In s Right) (In s Comma) (NamedAt s.mode) s.frames s.unit p.mark p.at m
-      → ((t : State) → Reached (before ++ p ∷ []) t → IsAnswer font end ((before ++ p ∷ []) ++ ps) (run font t ps >>= finish font end))
+      → ((t : ExprState) → Reached (before ++ p ∷ []) t → IsAnswer font end ((before ++ p ∷ []) ++ ps) (run font t ps >>= finish font end))
       → IsAnswer font end (before ++ p ∷ ps) ((m >>= λ t. run font t ps) >>= finish font end)
   from_step end r p ps m (sure h) on = from_sure end r p ps m h on
   from_step end r p ps m (deep t h k many more) on = too_deep (too_deep_at r p ps t h k many more)
@@ -349,7 +349,7 @@ module _ (font : FontUnits) where
   or_false true = refl
   or_false false = refl
 
-  from_finish : (end : ℕ) {before : List Piece} {s : State} (r : Reached before s) (m : Answer Value)
+  from_finish : (end : ℕ) {before : List Piece} {s : ExprState} (r : Reached before s) (m : Answer Value)
       → FinishIs font (λ v. Completes font s [] v) s.unit end m → IsAnswer font end before m
   from_finish end {before = before} {s = s} r m (finds v h) =
       let t = text_out before v (subst (λ (l : List Piece). Completes font start l v) (append-nil before) ((r.same [] v).1 h)) in
@@ -360,7 +360,7 @@ module _ (font : FontUnits) where
       (λ t i. h (value font t) ((r.same [] (value font t)).0 (subst (λ (l : List Piece). Completes font start l (value font t))
       (sym (append-nil before)) (text_in before t i))))
 
-  answered : (end : ℕ) (before ps : List Piece) (s : State) → Reached before s → AllProper ps
+  answered : (end : ℕ) (before ps : List Piece) (s : ExprState) → Reached before s → AllProper ps
       → IsAnswer font end (before ++ ps) (run font s ps >>= finish font end)
   answered end before [] s r h = subst (λ (l : List Piece). IsAnswer font end l (finish font end s)) (sym (append-nil before))
       (from_finish end r (finish font end s) (finish_is font s end))
@@ -369,16 +369,16 @@ module _ (font : FontUnits) where
 
   -- ---- one value
 
-  one_step : (s : State) (p : Piece) (ps : List Piece) (v w : Found) (m : Answer State)
+  one_step : (s : ExprState) (p : Piece) (ps : List Piece) (v w : Found) (m : Answer ExprState)
       → StepIs font (In s p.mark p.at) (In s Right) (In s Comma) (NamedAt s.mode) s.frames s.unit p.mark p.at m
-      → ((t : State) → Valid font t → Completes font t ps v → Completes font t ps w → v ≡ w) → Completes font s (p ∷ ps) v
+      → ((t : ExprState) → Valid font t → Completes font t ps v → Completes font t ps w → v ≡ w) → Completes font s (p ∷ ps) v
       → Completes font s (p ∷ ps) w → v ≡ w
   one_step s p ps v w m (sure (steps t h k le)) on a b = on t k.valid ((h ps v).0 a) ((h ps w).0 b)
   one_step s p ps v w m (sure (refuses h k)) on a b = absurd (h ps v a)
   one_step s p ps v w m (sure (miscounts name h k)) on a b = absurd (h ps v a)
   one_step s p ps v w m (deep t h k many more) on a b = on t k.valid ((h ps v).0 a) ((h ps w).0 b)
 
-  one_completion : (s : State) (ps : List Piece) (v w : Found) → AllProper ps → Valid font s → Completes font s ps v → Completes font s ps w → v ≡ w
+  one_completion : (s : ExprState) (ps : List Piece) (v w : Found) → AllProper ps → Valid font s → Completes font s ps v → Completes font s ps w → v ≡ w
   one_completion s [] v w h valid a b = one_value font s v w a b
   one_completion s (p ∷ ps) v w h valid a b =
       one_step s p ps v w (step font s p) (step_is font s p h.0 valid) (λ t kept a b. one_completion t ps v w h.1 kept a b) a b

@@ -13,17 +13,17 @@ use Rattle.tk_expr.specs.Number.{Decimal, no_digits, with_digit, with_point, pla
 use Rattle.tk_expr.specs.Pieces.{pieces_of}
 use Rattle.tk_expr.specs.Evaluated.{evaluated}
 use Rattle.tk_token.specs.Places.{end_of}
-use Rattle.tk_expr.specs.Machine.{Found, State, start, step_in, step, run, finish, powered, multiplied, added, compared, conjoined, disjoined}
+use Rattle.tk_expr.specs.Machine.{Found, ExprState, start, step_in, step, run, finish, powered, multiplied, added, compared, conjoined, disjoined}
 use Rattle.tk_expr.specs.Plain.{sign_waits, wanting, counting, pointed, Reaches, signed_value, EndsAs, IsEvaluated}
 
 -- one step of the machine
-one_step_goes_on : (font : FontUnits) (s t : State) (p : Piece) (ps all : List Piece) (m : Mark) → all ≡ p ∷ ps → p.mark ≡ m
+one_step_goes_on : (font : FontUnits) (s t : ExprState) (p : Piece) (ps all : List Piece) (m : Mark) → all ≡ p ∷ ps → p.mark ≡ m
     → step_in font s.mode m p.at s ≡ Ok t → run font s all ≡ run font t ps
 unfolding step
 one_step_goes_on font s t p ps all m front is one =
     ap (run font s) front
     ∙ ap (λ (m : Mark). step_in font s.mode m p.at s >>= λ t. run font t ps) is
-    ∙ ap (λ (a : Answer State). a >>= λ t. run font t ps) one
+    ∙ ap (λ (a : Answer ExprState). a >>= λ t. run font t ps) one
 
 module _ (p : Piece) (ps all : List Piece) (front : all ≡ p ∷ ps) where
   pub minus_goes : p.mark ≡ Minus → (font : FontUnits) → run font (wanting false) all ≡ run font (wanting true) ps
@@ -91,17 +91,17 @@ plain_ends font n ts x none is negative end =
 pub unit_ends : (font : FontUnits) (n : Decimal) (ts us : List Tok) (p : Piece) (u : AUnit) (x : Found) → pieces_of ts ≡ p ∷ pieces_of us → us ≡ []
     → p.mark ≡ Measure u → x ≡ unit_value font u n → EndsAs font (counting n) ts (x, true)
 unit_ends font n ts us p u x front none mark is negative end =
-    ap (λ (a : Answer State). a >>= λ s. finish font end s) (unit_goes p (pieces_of us) (pieces_of ts) front n font u mark negative
+    ap (λ (a : Answer ExprState). a >>= λ s. finish font end s) (unit_goes p (pieces_of us) (pieces_of ts) front n font u mark negative
     ∙ ap (λ (us : List Tok). run font (record start { pending = sign_waits negative; mode = After (unit_value font u n); unit = true })
     (pieces_of us)) none)
     ∙ short_way_ends font end negative (unit_value font u n) true
     ∙ ap (λ (x : Found). signed_value negative x true) (sym is)
 
 -- what a text comes to from one state, it comes to from each that goes there
-module _ (font : FontUnits) (s t : Bool → State) (ts us : List Tok) (same : (negative : Bool) → run font (s negative) (pieces_of ts)
+module _ (font : FontUnits) (s t : Bool → ExprState) (ts us : List Tok) (same : (negative : Bool) → run font (s negative) (pieces_of ts)
     ≡ run font (t negative) (pieces_of us)) where
   from_there : (found : Found × Bool) → EndsAs font t us found → EndsAs font s ts found
-  from_there found h negative end = ap (λ (a : Answer State). a >>= λ s. finish font end s) (same negative) ∙ h negative end
+  from_there found h negative end = ap (λ (a : Answer ExprState). a >>= λ s. finish font end s) (same negative) ∙ h negative end
 
   pub ends_from : (o : Option (Found × Bool)) → IfSome o (EndsAs font t us) → IfSome o (EndsAs font s ts)
   ends_from None h = tt
@@ -115,4 +115,4 @@ pub plain_is : (font : FontUnits) (list rest : List Tok) (negative : Bool) (foun
     → IsEvaluated font list r
 unfolding evaluated
 plain_is font list rest negative found r a b e at =
-    e ∙ sym (ap (λ (a : Answer State). a >>= λ s. finish font (end_of at list) s) (a font) ∙ b negative (end_of at list))
+    e ∙ sym (ap (λ (a : Answer ExprState). a >>= λ s. finish font (end_of at list) s) (a font) ∙ b negative (end_of at list))

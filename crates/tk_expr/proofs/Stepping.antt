@@ -15,8 +15,8 @@ use Rattle.tk_expr.specs.declared.machine.Waiting.{Waiting}
 use Rattle.tk_expr.specs.declared.machine.Pending.{Pending}
 use Rattle.tk_expr.specs.declared.machine.Bracket.{Bracket}
 use Rattle.tk_expr.specs.declared.machine.Bracket.TheVariants.{Plain, Only, First, Each}
-use Rattle.tk_expr.specs.declared.machine.Frame.{Frame}
-use Rattle.tk_expr.specs.declared.machine.Frame.TheVariants.{Inside}
+use Rattle.tk_expr.specs.declared.machine.OpenFrame.{OpenFrame}
+use Rattle.tk_expr.specs.declared.machine.OpenFrame.TheVariants.{Inside}
 use Rattle.tk_expr.specs.declared.machine.Mode.{Mode}
 use Rattle.tk_expr.specs.declared.machine.Mode.TheVariants.{Wanted, Ordered, Half, Named, Dot, Number, Measured, After}
 use Rattle.tk_expr.specs.Evaluates.{is_unit}
@@ -24,7 +24,7 @@ use Rattle.tk_expr.specs.Faults.{Opener, opener_behind, name_behind, open_behind
 use Rattle.tk_expr.specs.Number.{Decimal, no_digits, with_digit, with_point, plain_value, unit_value}
 use Rattle.tk_expr.specs.Values.{pi_value}
 use Rattle.tk_expr.specs.Grammar.{piece, skip, next_unit, after_unit, past_unit, prefix_of, exponent_sign}
-use Rattle.tk_expr.specs.Machine.{Found, State, with_prefix, wanted_in, to_mode, sign_operand, begin, ordered, is_half, half, named, dot, measured}
+use Rattle.tk_expr.specs.Machine.{Found, ExprState, with_prefix, wanted_in, to_mode, sign_operand, begin, ordered, is_half, half, named, dot, measured}
 use Rattle.tk_expr.specs.Machine.{number, step_in, step}
 use Rattle.tk_expr.proofs.Readings.{decimal_from, decimal_found, Whole, Primary}
 use Rattle.tk_expr.proofs.Continuations.{Behind, Via, after_primary, wants, in_bracket, ends_in, in_number, in_dot, in_name, directly, or_same_waits}
@@ -52,7 +52,7 @@ module _ (font : FontUnits) where
   -- ---- where an operand is wanted
 
   -- an operand is wanted in the state
-  abbrev pub Wants : State → Ahead
+  abbrev pub Wants : ExprState → Ahead
   Wants s ps v = wants font s.pending.power s.pending (ends_in font s.frames v) ps
 
   abbrev IsNoPrimary : Mark → Type 1
@@ -64,7 +64,7 @@ module _ (font : FontUnits) where
   no_sign_at (Some w) p k m ps e f (s, h, v) = some_not_none f h
 
   -- an operand that begins with a mark
-  primary_same : (m : Mark) → is_gap m ≡ false → prefix_of m ≡ None → exponent_sign m ≡ None → (at : ℕ) (s : State) → Tidy font s.pending
+  primary_same : (m : Mark) → is_gap m ≡ false → prefix_of m ≡ None → exponent_sign m ≡ None → (at : ℕ) (s : ExprState) → Tidy font s.pending
       → (ps : List Piece) (v : Found) → Wants s (piece m at ∷ ps) v ↔ PrimaryAt font (after_primary font s.pending (ends_in font s.frames v)) m at ps
   primary_same m g e f at s t ps v =
       let p = s.pending in
@@ -75,16 +75,16 @@ module _ (font : FontUnits) where
       )
 
   -- a mark that begins no operand
-  wants_not : (m : Mark) → is_gap m ≡ false → prefix_of m ≡ None → exponent_sign m ≡ None → IsNoPrimary m → (at : ℕ) (s : State) → Tidy font s.pending
+  wants_not : (m : Mark) → is_gap m ≡ false → prefix_of m ≡ None → exponent_sign m ≡ None → IsNoPrimary m → (at : ℕ) (s : ExprState) → Tidy font s.pending
       → (ps : List Piece) (v : Found) → Wants s (piece m at ∷ ps) v → ⊥
   wants_not m g e f non at s t ps v h = non (after_primary font s.pending (ends_in font s.frames v)) at ps ((primary_same m g e f at s t ps v).0 h)
 
   -- in a state that wants an operand
-  abbrev WantsIs : State → Mark → ℕ → Answer State → Type 0
+  abbrev WantsIs : ExprState → Mark → ℕ → Answer ExprState → Type 0
   WantsIs s m at r = StepIs font (λ ps v. Wants s (piece m at ∷ ps) v) (λ k ps v. Wants s (piece Right k ∷ ps) v)
       (λ k ps v. Wants s (piece Comma k ∷ ps) v) (Unnamed font) s.frames s.unit m at r
 
-  mode_is : (m : Mark) (at : ℕ) (mode : Mode) (s : State) → Tidy font s.pending → FramesTidy font s.frames → HalfMode font mode → is_unit m ≡ false
+  mode_is : (m : Mark) (at : ℕ) (mode : Mode) (s : ExprState) → Tidy font s.pending → FramesTidy font s.frames → HalfMode font mode → is_unit m ≡ false
       → ((name : Option ℕ) (os : List Opener) → open_behind name os m ≡ os)
       → ((name : Option ℕ) → Unnamed font name → NamedAt mode (name_behind name m at))
       → ((ps : List Piece) (v : Found) → Wants s (piece m at ∷ ps) v ↔ in_mode font mode s.pending (ends_in font s.frames v) ps)
@@ -92,7 +92,7 @@ module _ (font : FontUnits) where
   mode_is m at mode s p t half u same named iff =
       sure (steps (record s { mode = mode }) iff (kept_mode font s t m at mode s.pending half p u same named) (λ le. le))
 
-  refused_is : (m : Mark) → is_gap m ≡ false → prefix_of m ≡ None → exponent_sign m ≡ None → IsNoPrimary m → (at : ℕ) (s : State)
+  refused_is : (m : Mark) → is_gap m ≡ false → prefix_of m ≡ None → exponent_sign m ≡ None → IsNoPrimary m → (at : ℕ) (s : ExprState)
       → Tidy font s.pending → WantsIs s m at (fault Expression at)
   refused_is m g e f non at s t = sure (refuses (λ ps v h. wants_not m g e f non at s t ps v h) (no_miscount font _ _ s.frames m
       (λ k ps v h. wants_not Right refl refl refl never k s t ps v h) (λ k ps v h. wants_not Comma refl refl refl never k s t ps v h)))
@@ -124,7 +124,7 @@ module _ (font : FontUnits) where
 
   module _ (m : Mark) (g : is_gap m ≡ false) (non : IsNoPrimary m) (u : is_unit m ≡ false) (same : (name : Option ℕ) (os : List Opener)
       → open_behind name os m ≡ os) (named : (name : Option ℕ) (at : ℕ) → name_behind name m at ≡ None) where
-    operand_sign : (sign : Prefix) → prefix_of m ≡ Some sign → (at : ℕ) (s : State) → s.pending.power ≡ None → Tidy font s.pending
+    operand_sign : (sign : Prefix) → prefix_of m ≡ Some sign → (at : ℕ) (s : ExprState) → s.pending.power ≡ None → Tidy font s.pending
         → FramesTidy font s.frames
         → WantsIs s m at (Ok (record s { mode = Wanted; pending = record s.pending { signs = with_prefix sign s.pending.signs } }))
     operand_sign sign f at s alone p t =
@@ -134,7 +134,7 @@ module _ (font : FontUnits) where
         ↔ wants font w q (ends_in font s.frames v) ps) (sym alone) (sign_same sign m g f non at s.pending (ends_in font s.frames v) alone p ps))
         (kept_mode font s t m at Wanted q tt p u same (λ name e. named name at)) (λ le. le))
 
-    exponent_sign_is : (sign : Prefix) → exponent_sign m ≡ Some sign → (at : ℕ) (s : State) (w : Waiting) → s.pending.power ≡ Some w
+    exponent_sign_is : (sign : Prefix) → exponent_sign m ≡ Some sign → (at : ℕ) (s : ExprState) (w : Waiting) → s.pending.power ≡ Some w
         → Tidy font s.pending → FramesTidy font s.frames
         → WantsIs s m at (Ok (record s { mode = Wanted; pending = record s.pending { exponent = with_prefix sign s.pending.exponent } }))
     exponent_sign_is sign f at s w is p t =
@@ -144,12 +144,12 @@ module _ (font : FontUnits) where
         ↔ wants font w q (ends_in font s.frames v) ps) (sym is) (exponent_same sign m g f non at w s.pending (ends_in font s.frames v) is p ps))
         (kept_mode font s t m at Wanted q tt (λ e. absurd (some_not_none e is)) u same (λ name e. named name at)) (λ le. le))
 
-  minus_is : (w : Option Waiting) (at : ℕ) (s : State) → s.pending.power ≡ w → Tidy font s.pending → FramesTidy font s.frames
+  minus_is : (w : Option Waiting) (at : ℕ) (s : ExprState) → s.pending.power ≡ w → Tidy font s.pending → FramesTidy font s.frames
       → WantsIs s Minus at (sign_operand w Negate at s)
   minus_is None at s e p t = operand_sign Minus refl never refl (λ name os. refl) (λ name at. refl) Negate refl at s e p t
   minus_is (Some w) at s e p t = exponent_sign_is Minus refl never refl (λ name os. refl) (λ name at. refl) Negate refl at s w e p t
 
-  plus_is : (w : Option Waiting) (at : ℕ) (s : State) → s.pending.power ≡ w → Tidy font s.pending → FramesTidy font s.frames
+  plus_is : (w : Option Waiting) (at : ℕ) (s : ExprState) → s.pending.power ≡ w → Tidy font s.pending → FramesTidy font s.frames
       → WantsIs s Plus at (sign_operand w Keep at s)
   plus_is None at s e p t = operand_sign Plus refl never refl (λ name os. refl) (λ name at. refl) Keep refl at s e p t
   plus_is (Some w) at s e p t = exponent_sign_is Plus refl never refl (λ name os. refl) (λ name at. refl) Keep refl at s w e p t
@@ -163,20 +163,20 @@ module _ (font : FontUnits) where
       by (inl (s, e, h)) = some_not_none refl e
       by (inr h) = primary_in font Bang at ps (after_primary font p k) refl h
 
-  bang_is : (w : Option Waiting) (at : ℕ) (s : State) → s.pending.power ≡ w → Tidy font s.pending → FramesTidy font s.frames
+  bang_is : (w : Option Waiting) (at : ℕ) (s : ExprState) → s.pending.power ≡ w → Tidy font s.pending → FramesTidy font s.frames
       → WantsIs s Bang at (sign_operand w Not at s)
   bang_is None at s e p t = operand_sign Bang refl never refl (λ name os. refl) (λ name at. refl) Not refl at s e p t
   bang_is (Some w) at s e p t = sure (refuses (λ ps v h. no_exponent w at s.pending (ends_in font s.frames v) ps e p h) tt)
 
   -- ---- all marks
 
-  left_same : (at : ℕ) (s : State) → Tidy font s.pending → (ps : List Piece) (v : Found)
+  left_same : (at : ℕ) (s : ExprState) → Tidy font s.pending → (ps : List Piece) (v : Found)
       → Wants s (piece Left at ∷ ps) v ↔ Completes font (wanted_in (Inside Plain s.pending ∷ s.frames) s) ps v
   left_same at s p ps v
       = let f = primary_same Left refl refl refl at s p ps v in let w = fresh_whole font (ends_in font (Inside Plain s.pending ∷ s.frames) v) ps in
       (λ h. w.0 (f.0 h), λ h. f.1 (w.1 h))
 
-  begin_is : (m : Mark) (at : ℕ) (s : State) → Proper m → Tidy font s.pending → FramesTidy font s.frames → WantsIs s m at (begin m at s)
+  begin_is : (m : Mark) (at : ℕ) (s : ExprState) → Proper m → Tidy font s.pending → FramesTidy font s.frames → WantsIs s m at (begin m at s)
   begin_is (Digit d) at s small p t = mode_is (Digit d) at (Number (with_digit d (no_digits false at))) s p t tt refl (λ name os. refl)
       (λ name e. refl) (λ ps v. let f = primary_same (Digit d) refl refl refl at s p ps v in (λ h. (f.0 h).1, λ h. f.1 (small, h)))
   begin_is Point at s small p t =
@@ -224,22 +224,22 @@ module _ (font : FontUnits) where
   directly_same : (m : Mark) (k : List Piece → Type 0) (at : ℕ) (ps : List Piece) → directly font m k (piece m at ∷ ps) ↔ k ps
   directly_same m k at ps = (λ (i, qs, b, h). front_from (λ _ _ ps. k ps) m m i at qs ps (sym b) h, λ h. (at, ps, refl, h))
 
-  abbrev Orders : State → Ahead
+  abbrev Orders : ExprState → Ahead
   Orders s ps v = in_mode font Ordered s.pending (ends_in font s.frames v) ps
 
-  order_same : (m : Mark) → is_equals m ≡ false → (at : ℕ) (s : State) (ps : List Piece) (v : Found)
+  order_same : (m : Mark) → is_equals m ≡ false → (at : ℕ) (s : ExprState) (ps : List Piece) (v : Found)
       → Orders s (piece m at ∷ ps) v ↔ Wants s (piece m at ∷ ps) v
   order_same m e at s ps v = (λ h. only_left (λ h. not_directly is_equals m Equals _ at ps e refl h) h, λ h. inl h)
 
-  abbrev OrderIs : State → Mark → ℕ → Answer State → Type 0
+  abbrev OrderIs : ExprState → Mark → ℕ → Answer ExprState → Type 0
   OrderIs s m at r = StepIs font (λ ps v. Orders s (piece m at ∷ ps) v) (λ k ps v. Orders s (piece Right k ∷ ps) v)
       (λ k ps v. Orders s (piece Comma k ∷ ps) v) (Unnamed font) s.frames s.unit m at r
 
-  order_as : (m : Mark) → is_equals m ≡ false → (at : ℕ) (s : State) (r : Answer State) → WantsIs s m at r → OrderIs s m at r
+  order_as : (m : Mark) → is_equals m ≡ false → (at : ℕ) (s : ExprState) (r : Answer ExprState) → WantsIs s m at r → OrderIs s m at r
   order_as m e at s r h =
       step_as font (λ ps v. order_same m e at s ps v) (λ k ps v. order_same Right refl k s ps v) (λ k ps v. order_same Comma refl k s ps v) h
 
-  ordered_is : (m : Mark) (at : ℕ) (s : State) → Proper m → Tidy font s.pending → FramesTidy font s.frames → OrderIs s m at (ordered m at s)
+  ordered_is : (m : Mark) (at : ℕ) (s : ExprState) → Proper m → Tidy font s.pending → FramesTidy font s.frames → OrderIs s m at (ordered m at s)
   ordered_is Equals at s small p t = sure (steps (record s { mode = Wanted; pending = or_same_waits font s.pending })
       (λ ps v. let d = directly_same Equals (wants font s.pending.power (or_same_waits font s.pending) (ends_in font s.frames v)) at ps in (
         λ h.
@@ -269,19 +269,19 @@ module _ (font : FontUnits) where
   not_half Bar = (refl, refl)
   not_half _ = (refl, refl)
 
-  half_kept : (w : Mark) (at : ℕ) (s : State) → HalfMark font w → Tidy font s.pending → FramesTidy font s.frames
+  half_kept : (w : Mark) (at : ℕ) (s : ExprState) → HalfMark font w → Tidy font s.pending → FramesTidy font s.frames
       → Kept font (Unnamed font) s.frames s.unit w at (record s { mode = Wanted })
   half_kept Equals at s h p t = kept_mode font s t Equals at Wanted s.pending tt p refl (λ name os. refl) (λ name e. refl)
   half_kept Ampersand at s h p t = kept_mode font s t Ampersand at Wanted s.pending tt p refl (λ name os. refl) (λ name e. refl)
   half_kept Bar at s h p t = kept_mode font s t Bar at Wanted s.pending tt p refl (λ name os. refl) (λ name e. refl)
   half_kept _ at s h p t = elim h [ ]
 
-  abbrev HalfIs : Mark → State → Mark → ℕ → Answer State → Type 0
+  abbrev HalfIs : Mark → ExprState → Mark → ℕ → Answer ExprState → Type 0
   HalfIs w s m at r = StepIs font (λ ps v. in_mode font (Half w) s.pending (ends_in font s.frames v) (piece m at ∷ ps))
       (λ k ps v. in_mode font (Half w) s.pending (ends_in font s.frames v) (piece Right k ∷ ps)) (λ k ps v. in_mode font (Half w) s.pending
       (ends_in font s.frames v) (piece Comma k ∷ ps)) (Unnamed font) s.frames s.unit m at r
 
-  half_is : (w m : Mark) (at : ℕ) (s : State) → HalfMark font w → Tidy font s.pending → FramesTidy font s.frames → HalfIs w s m at (half w m at s)
+  half_is : (w m : Mark) (at : ℕ) (s : ExprState) → HalfMark font w → Tidy font s.pending → FramesTidy font s.frames → HalfIs w s m at (half w m at s)
   half_is w m at s h p t = by (is_half w m) refl
     where
       by : (b : Bool) → is_half w m ≡ b → HalfIs w s m at (cond b (to_mode Wanted s) (fault Expression at))
@@ -293,7 +293,7 @@ module _ (font : FontUnits) where
           (not_half w).1 (half_self w h) x)))
 
   -- what stands behind an operand of the state
-  abbrev behind : State → Found → Behind
+  abbrev behind : ExprState → Found → Behind
   behind s v = after_primary font s.pending (ends_in font s.frames v)
 
   -- ---- behind a name
@@ -310,17 +310,17 @@ module _ (font : FontUnits) where
   left_of b k at ps =
       (λ (i, qs, l, h). front_from (λ _ _ ps. Via (Whole font ps) (in_bracket font b k)) Left Left i at qs ps (sym l) h, λ h. (at, ps, refl, h))
 
-  abbrev NameIs : Bracket → State → Mark → ℕ → Answer State → Type 0
+  abbrev NameIs : Bracket → ExprState → Mark → ℕ → Answer ExprState → Type 0
   NameIs b s m at r = StepIs font (λ ps v. in_mode font (Named b) s.pending (ends_in font s.frames v) (piece m at ∷ ps))
       (λ k ps v. in_mode font (Named b) s.pending (ends_in font s.frames v) (piece Right k ∷ ps)) (λ k ps v. in_mode font (Named b) s.pending
       (ends_in font s.frames v) (piece Comma k ∷ ps)) (NamedAt (Named b)) s.frames s.unit m at r
 
-  name_opens : (b : Bracket) (p : Pending) (fs : List Frame) (name : Option ℕ) (os : List Opener) → NamedAt (Named b) name → Opens fs os
+  name_opens : (b : Bracket) (p : Pending) (fs : List OpenFrame) (name : Option ℕ) (os : List Opener) → NamedAt (Named b) name → Opens fs os
       → Opens (Inside b p ∷ fs) (opener_behind name ∷ os)
   name_opens b p fs None os e h = (e, h)
   name_opens b p fs (Some n) os e h = (e, h)
 
-  named_is : (b : Bracket) (m : Mark) (at : ℕ) (s : State) → Tidy font s.pending → FramesTidy font s.frames → NameIs b s m at (named b m at s)
+  named_is : (b : Bracket) (m : Mark) (at : ℕ) (s : ExprState) → Tidy font s.pending → FramesTidy font s.frames → NameIs b s m at (named b m at s)
   named_is b Left at s p t = opened_is font _ _ _ (NamedAt (Named b)) Left at (Inside b s.pending) s
       (λ ps v. let k = after_primary font s.pending (ends_in font s.frames v) in let l = left_of b k at ps in let w = fresh_whole font (in_bracket font b k) ps in (λ h. w.0 (l.0 h), λ h. l.1 (w.1 h))) (record { valid = record { half = tt; tidy = λ e. refl; frames = (p, t) }; unit_is = refl; opens = λ name os e h. (name_opens b s.pending s.frames name os e h, refl) })
   named_is b Gap at s p t = sure (steps (record s { mode = Named b }) (λ ps v. (λ h. h, λ h. h))
@@ -339,12 +339,12 @@ module _ (font : FontUnits) where
   dot_at : (place : ℕ) (k : Behind) (m : Mark) (at : ℕ) (ps : List Piece) → in_dot font place k (piece m at ∷ ps) → DotAt place k m ps
   dot_at place k m at ps (d, i, qs, e, small, h) = front_from (λ m _ ps. DotAt place k m ps) (Digit d) m i at qs ps (sym e) h
 
-  abbrev DotIs : ℕ → State → Mark → ℕ → Answer State → Type 0
+  abbrev DotIs : ℕ → ExprState → Mark → ℕ → Answer ExprState → Type 0
   DotIs place s m at r = StepIs font (λ ps v. in_mode font (Dot place) s.pending (ends_in font s.frames v) (piece m at ∷ ps))
       (λ k ps v. in_mode font (Dot place) s.pending (ends_in font s.frames v) (piece Right k ∷ ps)) (λ k ps v. in_mode font (Dot place) s.pending
       (ends_in font s.frames v) (piece Comma k ∷ ps)) (Unnamed font) s.frames s.unit m at r
 
-  dot_is : (place : ℕ) (m : Mark) (at : ℕ) (s : State) → Proper m → Tidy font s.pending → FramesTidy font s.frames
+  dot_is : (place : ℕ) (m : Mark) (at : ℕ) (s : ExprState) → Proper m → Tidy font s.pending → FramesTidy font s.frames
       → DotIs place s m at (dot place m at s)
   dot_is place (Digit d) at s small p t =
       sure (steps (record s { mode = Number (with_digit d (no_digits true place)) }) (λ ps v. (
@@ -357,7 +357,7 @@ module _ (font : FontUnits) where
       (no_miscount font (λ k ps v. in_dot font place (behind s v) (piece Right k ∷ ps)) (λ k ps v. in_dot font place (behind s v) (piece Comma k
       ∷ ps)) s.frames m (λ k ps v h. dot_at place (behind s v) Right k ps h) (λ k ps v h. dot_at place (behind s v) Comma k ps h)))
 
-  abbrev MeasuredIs : Decimal → State → Mark → ℕ → Answer State → Type 0
+  abbrev MeasuredIs : Decimal → ExprState → Mark → ℕ → Answer ExprState → Type 0
   MeasuredIs n s m at r = StepIs font (λ ps v. in_mode font (Measured n) s.pending (ends_in font s.frames v) (piece m at ∷ ps))
       (λ k ps v. in_mode font (Measured n) s.pending (ends_in font s.frames v) (piece Right k ∷ ps)) (λ k ps v. in_mode font (Measured n) s.pending
       (ends_in font s.frames v) (piece Comma k ∷ ps)) (Unnamed font) s.frames s.unit m at r
@@ -369,7 +369,7 @@ module _ (font : FontUnits) where
   past_gaps (Some u) k x (m ∷ ms) ps qs pass e h = h
   past_gaps None k x ms ps qs pass e h = pass ps qs e h
 
-  gap_same : (n : Decimal) (at : ℕ) (s : State) (ps : List Piece) (v : Found)
+  gap_same : (n : Decimal) (at : ℕ) (s : ExprState) (ps : List Piece) (v : Found)
       → in_mode font (Measured n) s.pending (ends_in font s.frames v) (piece Gap at ∷ ps)
       ↔ in_mode font (Measured n) s.pending (ends_in font s.frames v) ps
   gap_same n at s ps v =
@@ -382,7 +382,7 @@ module _ (font : FontUnits) where
             ∷ ps) pass refl h,
       )
 
-  measured_is : (n : Decimal) (m : Mark) (at : ℕ) (s : State) → Tidy font s.pending → FramesTidy font s.frames
+  measured_is : (n : Decimal) (m : Mark) (at : ℕ) (s : ExprState) → Tidy font s.pending → FramesTidy font s.frames
       → MeasuredIs n s m at (measured font n m at s)
   measured_is n (Measure u) at s p t =
       sure (steps (record s { mode = After (unit_value font u n); unit = true }) (λ ps v. (λ h. h, λ h. h))
@@ -391,7 +391,7 @@ module _ (font : FontUnits) where
       (record { valid = record { half = tt; tidy = p; frames = t }; unit_is = refl; opens = λ name os e h. (h, e) }) (λ le. le))
   measured_is n m at s p t = after_is font (plain_value font n) m at s p t
 
-  abbrev NumberIs : Decimal → State → Mark → ℕ → Answer State → Type 0
+  abbrev NumberIs : Decimal → ExprState → Mark → ℕ → Answer ExprState → Type 0
   NumberIs n s m at r = StepIs font (λ ps v. in_mode font (Number n) s.pending (ends_in font s.frames v) (piece m at ∷ ps))
       (λ k ps v. in_mode font (Number n) s.pending (ends_in font s.frames v) (piece Right k ∷ ps)) (λ k ps v. in_mode font (Number n) s.pending
       (ends_in font s.frames v) (piece Comma k ∷ ps)) (Unnamed font) s.frames s.unit m at r
@@ -419,13 +419,13 @@ module _ (font : FontUnits) where
   second_point : (n : Decimal) (at : ℕ) (k : Behind) (ps : List Piece) → n.pointed ≡ true → in_number font n k (piece Point at ∷ ps) → ⊥
   second_point n at k ps e (m, f, h) = some_not_none (ap (λ (b : Bool). cond b None (decimal_from ps (with_point n))) e) f
 
-  point_is : (b : Bool) (n : Decimal) (at : ℕ) (s : State) → n.pointed ≡ b → Tidy font s.pending → FramesTidy font s.frames
+  point_is : (b : Bool) (n : Decimal) (at : ℕ) (s : ExprState) → n.pointed ≡ b → Tidy font s.pending → FramesTidy font s.frames
       → NumberIs n s Point at (cond b (fault Expression at) (to_mode (Number (with_point n)) s))
   point_is true n at s e p t = sure (refuses (λ ps v h. second_point n at (behind s v) ps e h) tt)
   point_is false n at s e p t = sure (steps (record s { mode = Number (with_point n) }) (λ ps v. point_same n at (behind s v) ps e)
       (kept_mode font s t Point at (Number (with_point n)) s.pending tt p refl (λ name os. refl) (λ name e. refl)) (λ le. le))
 
-  number_is : (n : Decimal) (m : Mark) (at : ℕ) (s : State) → Proper m → Tidy font s.pending → FramesTidy font s.frames
+  number_is : (n : Decimal) (m : Mark) (at : ℕ) (s : ExprState) → Proper m → Tidy font s.pending → FramesTidy font s.frames
       → NumberIs n s m at (number font n m at s)
   number_is n (Digit d) at s small p t =
       sure (steps (record s { mode = Number (with_digit d n) }) (λ ps v. digit_same n d at (behind s v) ps small) (kept_mode font s t (Digit d) at
@@ -438,12 +438,12 @@ module _ (font : FontUnits) where
 
   -- ---- one piece in any state
 
-  abbrev pub ModeIs : Mode → State → Mark → ℕ → Answer State → Type 0
+  abbrev pub ModeIs : Mode → ExprState → Mark → ℕ → Answer ExprState → Type 0
   ModeIs mode s m at r = StepIs font (λ ps v. in_mode font mode s.pending (ends_in font s.frames v) (piece m at ∷ ps)) (λ k ps v. in_mode font mode
       s.pending (ends_in font s.frames v) (piece Right k ∷ ps)) (λ k ps v. in_mode font mode s.pending (ends_in font s.frames v) (piece Comma k ∷ ps))
       (NamedAt mode) s.frames s.unit m at r
 
-  mode_step : (mode : Mode) (m : Mark) (at : ℕ) (s : State) → Proper m → HalfMode font mode → Tidy font s.pending → FramesTidy font s.frames
+  mode_step : (mode : Mode) (m : Mark) (at : ℕ) (s : ExprState) → Proper m → HalfMode font mode → Tidy font s.pending → FramesTidy font s.frames
       → ModeIs mode s m at (step_in font mode m at s)
   mode_step Wanted m at s small h p t = begin_is m at s small p t
   mode_step Ordered m at s small h p t = ordered_is m at s small p t
@@ -454,6 +454,6 @@ module _ (font : FontUnits) where
   mode_step (Measured n) m at s small h p t = measured_is n m at s p t
   mode_step (After x) m at s small h p t = after_is font x m at s p t
 
-  pub step_is : (s : State) (p : Piece) → Proper p.mark → Valid font s → ModeIs s.mode s p.mark p.at (step font s p)
+  pub step_is : (s : ExprState) (p : Piece) → Proper p.mark → Valid font s → ModeIs s.mode s p.mark p.at (step font s p)
   unfolding step
   step_is s p small h = mode_step s.mode p.mark p.at s small h.half h.tidy h.frames

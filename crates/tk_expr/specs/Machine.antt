@@ -29,11 +29,11 @@ use Rattle.tk_expr.specs.declared.machine.Waiting.{Waiting}
 use Rattle.tk_expr.specs.declared.machine.Pending.{Pending}
 use Rattle.tk_expr.specs.declared.machine.Bracket.{Bracket}
 use Rattle.tk_expr.specs.declared.machine.Bracket.TheVariants.{Plain, Only, First, Second, Each}
-use Rattle.tk_expr.specs.declared.machine.Frame.{Frame}
-use Rattle.tk_expr.specs.declared.machine.Frame.TheVariants.{Inside, Then, Else}
+use Rattle.tk_expr.specs.declared.machine.OpenFrame.{OpenFrame}
+use Rattle.tk_expr.specs.declared.machine.OpenFrame.TheVariants.{Inside, Then, Else}
 use Rattle.tk_expr.specs.declared.machine.Mode.{Mode}
 use Rattle.tk_expr.specs.declared.machine.Mode.TheVariants.{Wanted, Ordered, Half, Named, Dot, Number, Measured, After}
-pub use Rattle.tk_expr.specs.declared.machine.State.{State}
+pub use Rattle.tk_expr.specs.declared.machine.ExprState.{ExprState}
 use Rattle.tk_expr.specs.declared.Value.{Value}
 use Rattle.tk_expr.specs.Number.{Decimal, no_digits, with_digit, with_point, plain_value, unit_value}
 use Rattle.tk_expr.specs.Values.{placed, truth, is_true, prefixed, operated, chosen, in_unit, in_degrees, pi_value}
@@ -188,7 +188,7 @@ waiting_or_same (Some w) = Some (record w { operator = or_same w.operator })
 -- a value, and what is open round it
 pub record Closed : Type 0 where
   pub value : Found
-  pub frames : List Frame
+  pub frames : List OpenFrame
 
 -- what a `?`, its `:` and the value behind that come to
 abbrev pub choice_found : Found → Found → Found → Found
@@ -199,30 +199,30 @@ choice_found c x y = do
   Ok (chosen b v w)
 
 -- the end of an expression: each `?` that has its `:` ends with it
-abbrev pub closed : Found → List Frame → Closed
+abbrev pub closed : Found → List OpenFrame → Closed
 closed v [] = record { value = v; frames = [] }
 closed v (Else c x ∷ frames) = closed (choice_found c x v) frames
 closed v (frame ∷ frames) = record { value = v; frames = frame ∷ frames }
 
 -- whether the innermost is a `?` that has its `:`
-abbrev pub is_choice : List Frame → Bool
+abbrev pub is_choice : List OpenFrame → Bool
 is_choice (Else c x ∷ frames) = true
 is_choice _ = false
 
 -- the end of the innermost expression, behind its last operand
-abbrev pub closed_behind : Found → State → Closed
+abbrev pub closed_behind : Found → ExprState → Closed
 closed_behind x s = closed (disjoined s.pending x) s.frames
 
 -- an operand is wanted, with nothing that waits
-abbrev pub wanted_in : List Frame → State → State
+abbrev pub wanted_in : List OpenFrame → ExprState → ExprState
 wanted_in frames s = record { mode = Wanted; pending = nothing; frames = frames; unit = s.unit }
 
 -- an opener at that place: at most 64 are open
-abbrev pub with_frame : ℕ → Frame → State → Answer State
+abbrev pub with_frame : ℕ → OpenFrame → ExprState → Answer ExprState
 with_frame at frame s = if nat_lt (length s.frames) 64 then Ok (wanted_in (frame ∷ s.frames) s) else fault TooDeep at
 
 -- an operand was read, with what waits outside its parenthesis
-abbrev pub outside : Found → Pending → List Frame → State → State
+abbrev pub outside : Found → Pending → List OpenFrame → ExprState → ExprState
 outside v saved frames s = record { mode = After v; pending = saved; frames = frames; unit = s.unit }
 
 -- the value of a call with one argument
@@ -245,7 +245,7 @@ most_found f (Some x) y = do
   Ok (called_most f v w)
 
 -- the end of a parenthesis behind a value; a call with too few arguments is refused at its name
-abbrev pub bracket_ends : ℕ → Bracket → Found → Pending → List Frame → State → Answer State
+abbrev pub bracket_ends : ℕ → Bracket → Found → Pending → List OpenFrame → ExprState → Answer ExprState
 bracket_ends at Plain v saved frames s = Ok (outside v saved frames s)
 bracket_ends at (Only f name) v saved frames s = Ok (outside (one_found f name v) saved frames s)
 bracket_ends at (First f name) v saved frames s = fault Expression name
@@ -253,12 +253,12 @@ bracket_ends at (Second f name x) v saved frames s = Ok (outside (two_found f na
 bracket_ends at (Each f x) v saved frames s = Ok (outside (most_found f x v) saved frames s)
 
 -- a `)` at that place, behind a value
-abbrev pub at_right : ℕ → Found → List Frame → State → Answer State
+abbrev pub at_right : ℕ → Found → List OpenFrame → ExprState → Answer ExprState
 at_right at v (Inside bracket saved ∷ frames) s = bracket_ends at bracket v saved frames s
 at_right at v _ s = fault Expression at
 
 -- the next argument in a parenthesis behind a value; a call with too many arguments is refused at its name
-abbrev pub bracket_goes_on : ℕ → Bracket → Found → Pending → List Frame → State → Answer State
+abbrev pub bracket_goes_on : ℕ → Bracket → Found → Pending → List OpenFrame → ExprState → Answer ExprState
 bracket_goes_on at Plain v saved frames s = fault Expression at
 bracket_goes_on at (Only f name) v saved frames s = fault Expression name
 bracket_goes_on at (First f name) v saved frames s = Ok (wanted_in (Inside (Second f name v) saved ∷ frames) s)
@@ -267,35 +267,35 @@ bracket_goes_on at (Each f x) v saved frames s =
     Ok (wanted_in (Inside (Each f (Some (most_found f x v))) saved ∷ frames) s)
 
 -- a `,` at that place, behind a value
-abbrev pub at_comma : ℕ → Found → List Frame → State → Answer State
+abbrev pub at_comma : ℕ → Found → List OpenFrame → ExprState → Answer ExprState
 at_comma at v (Inside bracket saved ∷ frames) s = bracket_goes_on at bracket v saved frames s
 at_comma at v _ s = fault Expression at
 
 -- a `:` at that place, behind a value
-abbrev pub at_colon : ℕ → Found → List Frame → State → Answer State
+abbrev pub at_colon : ℕ → Found → List OpenFrame → ExprState → Answer ExprState
 at_colon at v (Then c ∷ frames) s = Ok (wanted_in (Else c v ∷ frames) s)
 at_colon at v _ s = fault Expression at
 
 -- ---- one piece
 
 -- the state in another mode
-abbrev pub to_mode : Mode → State → Answer State
+abbrev pub to_mode : Mode → ExprState → Answer ExprState
 to_mode mode s = Ok (record s { mode = mode })
 
 -- a sign before an exponent
-abbrev pub sign_exponent : Prefix → ℕ → State → Answer State
+abbrev pub sign_exponent : Prefix → ℕ → ExprState → Answer ExprState
 sign_exponent Not at s = fault Expression at
 sign_exponent sign at s =
     Ok (record s { mode = Wanted; pending = record s.pending { exponent = with_prefix sign s.pending.exponent } })
 
 -- a sign before an operand
-abbrev pub sign_operand : Option Waiting → Prefix → ℕ → State → Answer State
+abbrev pub sign_operand : Option Waiting → Prefix → ℕ → ExprState → Answer ExprState
 sign_operand None sign at s =
     Ok (record s { mode = Wanted; pending = record s.pending { signs = with_prefix sign s.pending.signs } })
 sign_operand (Some w) sign at s = sign_exponent sign at s
 
 -- one more piece where an operand is wanted
-abbrev pub begin : Mark → ℕ → State → Answer State
+abbrev pub begin : Mark → ℕ → ExprState → Answer ExprState
 begin (Digit d) at s = to_mode (Number (with_digit d (no_digits false at))) s
 begin Point at s = to_mode (Dot at) s
 begin Pi at s = to_mode (After (Ok pi_value)) s
@@ -310,7 +310,7 @@ begin Gap at s = to_mode Wanted s
 begin _ at s = fault Expression at
 
 -- one more piece directly behind `<` or `>`
-abbrev pub ordered : Mark → ℕ → State → Answer State
+abbrev pub ordered : Mark → ℕ → ExprState → Answer ExprState
 ordered Equals at s =
     Ok (record s { mode = Wanted; pending = record s.pending { comparison = waiting_or_same s.pending.comparison } })
 ordered mark at s = begin mark at s
@@ -323,21 +323,21 @@ is_half Bar Bar = true
 is_half _ _ = false
 
 -- one more piece directly behind the first half of an operator
-abbrev pub half : Mark → Mark → ℕ → State → Answer State
+abbrev pub half : Mark → Mark → ℕ → ExprState → Answer ExprState
 half wanted mark at s = if is_half wanted mark then to_mode Wanted s else fault Expression at
 
 -- one more piece behind the name of a function
-abbrev pub named : Bracket → Mark → ℕ → State → Answer State
+abbrev pub named : Bracket → Mark → ℕ → ExprState → Answer ExprState
 named bracket Left at s = with_frame at (Inside bracket s.pending) s
 named bracket Gap at s = to_mode (Named bracket) s
 named bracket _ at s = fault Expression at
 
 -- an operator behind an operand
-abbrev pub operator : Operator → Mode → ℕ → Found → State → Answer State
+abbrev pub operator : Operator → Mode → ℕ → Found → ExprState → Answer ExprState
 operator o mode at x s = Ok (record s { mode = mode; pending = waits o at x s.pending })
 
 -- a comparison behind an operand: there may be one
-abbrev pub comparison : Operator → Mode → ℕ → Found → State → Answer State
+abbrev pub comparison : Operator → Mode → ℕ → Found → ExprState → Answer ExprState
 comparison o mode at x s = if is_some s.pending.comparison then fault Expression at else operator o mode at x s
 
 -- a number in a unit
@@ -349,7 +349,7 @@ abbrev pub degrees_found : ℕ → Found → Found
 degrees_found at x = x >>= λ v. placed at (in_degrees v)
 
 -- one more piece behind an operand
-abbrev pub after : FontUnits → Found → Mark → ℕ → State → Answer State
+abbrev pub after : FontUnits → Found → Mark → ℕ → ExprState → Answer ExprState
 after font x (Measure unit) at s = Ok (record s { mode = After (unit_found font unit at x); unit = true })
 after font x Radian at s = to_mode (After (degrees_found at x)) s
 after font x Caret at s = operator Raise Wanted at x s
@@ -371,24 +371,24 @@ after font x Gap at s = to_mode (After x) s
 after font x _ at s = fault Expression at
 
 -- one more piece behind the point of a decimal that has no digit yet
-abbrev pub dot : ℕ → Mark → ℕ → State → Answer State
+abbrev pub dot : ℕ → Mark → ℕ → ExprState → Answer ExprState
 dot place (Digit d) at s = to_mode (Number (with_digit d (no_digits true place))) s
 dot place _ at s = fault Expression at
 
 -- one more piece behind a decimal and perhaps gaps
-abbrev pub measured : FontUnits → Decimal → Mark → ℕ → State → Answer State
+abbrev pub measured : FontUnits → Decimal → Mark → ℕ → ExprState → Answer ExprState
 measured font n (Measure unit) at s = Ok (record s { mode = After (unit_value font unit n); unit = true })
 measured font n Gap at s = to_mode (Measured n) s
 measured font n mark at s = after font (plain_value font n) mark at s
 
 -- one more piece directly behind a decimal
-abbrev pub number : FontUnits → Decimal → Mark → ℕ → State → Answer State
+abbrev pub number : FontUnits → Decimal → Mark → ℕ → ExprState → Answer ExprState
 number font n (Digit d) at s = to_mode (Number (with_digit d n)) s
 number font n Point at s = if n.pointed then fault Expression at else to_mode (Number (with_point n)) s
 number font n mark at s = measured font n mark at s
 
 -- one more piece in a mode
-abbrev pub step_in : FontUnits → Mode → Mark → ℕ → State → Answer State
+abbrev pub step_in : FontUnits → Mode → Mark → ℕ → ExprState → Answer ExprState
 step_in font Wanted mark at s = begin mark at s
 step_in font Ordered mark at s = ordered mark at s
 step_in font (Half wanted) mark at s = half wanted mark at s
@@ -399,17 +399,17 @@ step_in font (Measured n) mark at s = measured font n mark at s
 step_in font (After x) mark at s = after font x mark at s
 
 -- the state behind one more piece, or the fault of a piece that doesn't fit
-unfoldable pub step : FontUnits → State → Piece → Answer State
+unfoldable pub step : FontUnits → ExprState → Piece → Answer ExprState
 step font s p = step_in font s.mode p.mark p.at s
 
 -- ---- all pieces
 
 -- before the first piece
-abbrev pub start : State
+abbrev pub start : ExprState
 start = record { mode = Wanted; pending = nothing; frames = []; unit = false }
 
 -- the state behind pieces
-abbrev pub run : FontUnits → State → List Piece → Answer State
+abbrev pub run : FontUnits → ExprState → List Piece → Answer ExprState
 run font s [] = Ok s
 run font s (p ∷ ps) = step font s p >>= λ t. run font t ps
 
@@ -421,15 +421,15 @@ operand font (After x) = Some x
 operand font _ = None
 
 -- the value, where nothing is open any more
-abbrev pub value_in : ℕ → List Frame → Found → Bool → Answer Value
+abbrev pub value_in : ℕ → List OpenFrame → Found → Bool → Answer Value
 value_in end [] v unit = v >>= λ n. Ok (record { number = n; unit = unit })
 value_in end _ v unit = fault Expression end
 
 -- the value behind the last operand
-abbrev pub finish_behind : ℕ → Option Found → State → Answer Value
+abbrev pub finish_behind : ℕ → Option Found → ExprState → Answer Value
 finish_behind end None s = fault Expression end
 finish_behind end (Some x) s = value_in end (closed_behind x s).frames (closed_behind x s).value s.unit
 
 -- what the state comes to where the pieces run out, at that place
-unfoldable pub finish : FontUnits → ℕ → State → Answer Value
+unfoldable pub finish : FontUnits → ℕ → ExprState → Answer Value
 finish font end s = finish_behind end (operand font s.mode) s

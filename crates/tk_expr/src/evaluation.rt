@@ -7,7 +7,7 @@ ghost use Rattle.tk_expr.specs.Evaluates.{Evaluates};
 ghost use Rattle.tk_expr.specs.Steps.{Leads};
 ghost use Rattle.tk_expr.specs.Pieces.{pieces_of};
 
-use crate::machine::{Mode, State};
+use crate::machine::{ExprState, Mode};
 use crate::pieces::next_piece;
 use crate::plain::plain_value;
 use crate::steps::misfit;
@@ -26,7 +26,7 @@ fn operand(font: &FontUnits, mode: Mode) -> Option<Found>
     }
 }
 
-impl State {
+impl ExprState {
     /// The state behind all tokens, or the fault of the first piece that doesn't fit.
     fn run(&mut self, font: &FontUnits, list: &[Tok]) -> Result<(), Fault>
         ensures { Leads result self.new (machine.run font.now self.old (pieces_of list.now)) }
@@ -58,22 +58,12 @@ impl State {
     }
 }
 
-/// The value of an expression; `at` is the place of an empty one.
-pub(crate) fn evaluate(list: &[Tok], font: &FontUnits, at: u32) -> Result<Value, Fault>
-    ensures { result ≡ spec.evaluated font.now at list.now }
-{
-    match plain_value(list, font) {
-        Some(found) => found,
-        None => by_machine(list, font, at),
-    }
-}
-
-/// The same for any text.
+/// The value of any expression; `at` is the place of an empty one.
 #[tactic(auto, unfolding(crate::specs::Evaluated::evaluated))]
 fn by_machine(list: &[Tok], font: &FontUnits, at: u32) -> Result<Value, Fault>
     ensures { result ≡ spec.evaluated font.now at list.now }
 {
-    let mut state = State::new();
+    let mut state = ExprState::new();
     state.run(font, list)?;
     state.finish(font, end_of(at, list))
 }
@@ -85,10 +75,14 @@ fn by_machine(list: &[Tok], font: &FontUnits, at: u32) -> Result<Value, Fault>
 /// found at its `,` or `)` and stands at the name; where the tokens run out, the place is the last of
 /// them, or `at` where there is none. `TooDeep` stands at a 65th open parenthesis, call or `?`. Then the
 /// value is found, left to right: `TooLarge`, `DivZero` and `Domain` stand at the decimal, operator or
-/// name.
+/// name. A plain decimal is read without the machine.
 #[tactic(auto, using(crate::proofs::Runs::answer_means))]
 pub fn eval(list: &[Tok], font: FontUnits, at: u32) -> Result<Value, Fault>
-    ensures { Evaluates font at list.now result }
+    ensures means { Evaluates font at list.now result }
+    ensures value { result ≡ spec.evaluated font at list.now }
 {
-    evaluate(list, &font, at)
+    match plain_value(list, &font) {
+        Some(found) => found,
+        None => by_machine(list, &font, at),
+    }
 }

@@ -3,10 +3,10 @@
 ghost use Rattle.std.specs.Prelude.{◌≡◌, ◌∷◌, [], ◌<◌, ◌≤◌, length, drop, nat_lt, true, false, MatchOption, OnSome};
 ghost use Rattle.std.specs.Prelude.{OnOk, OnErr, IfErr};
 ghost use Rattle.tk_token.specs.declared.Code.TheVariants.{TooDeep};
-ghost use Rattle.tk_expr.specs.declared.machine.Frame.TheVariants.{Else};
+ghost use Rattle.tk_expr.specs.declared.machine.OpenFrame.TheVariants.{Else};
 ghost use Rattle.tk_expr.specs.Machine as spec;
 
-use crate::machine::Frame;
+use crate::machine::OpenFrame;
 use crate::values::{Found, chosen};
 use std::marker::Model;
 use tk_num::Scaled;
@@ -18,15 +18,15 @@ const MOST_FRAMES: usize = 64;
 /// What is open, innermost first: at most 64 frames. It takes no memory.
 #[derive(Drop)]
 pub struct Frames {
-    stack: [Frame; 64],
+    stack: [OpenFrame; 64],
     len: usize,
 }
 
 impl Model for Frames {
     ghost use Rattle.std.specs.Prelude.{List, reverse, take, ◌≤◌};
-    ghost use Rattle.tk_expr.specs.declared.machine.Frame.{Frame};
+    ghost use Rattle.tk_expr.specs.declared.machine.OpenFrame.{OpenFrame};
 
-    ghost Value = { List Frame };
+    ghost Value = { List OpenFrame };
 
     ghost view = { λ f. reverse (take f.len f.stack) };
 
@@ -39,13 +39,13 @@ impl Frames {
         ensures { result ≡ [] }
     {
         Frames {
-            stack: [Frame::Then(Ok(Scaled::within(0))); 64],
+            stack: [OpenFrame::Then(Ok(Scaled::within(0))); 64],
             len: 0,
         }
     }
 
     /// Opens one more, at that place; TooDeep where 64 are open.
-    pub(crate) fn push(&mut self, frame: Frame, at: u32) -> Result<(), Fault>
+    pub(crate) fn push(&mut self, frame: OpenFrame, at: u32) -> Result<(), Fault>
         ensures room { OnOk result (nat_lt (length self.old) 64 ≡ true) }
         ensures ok { OnOk result (self.new ≡ frame ∷ self.old) }
         ensures full { OnErr result (nat_lt (length self.old) 64 ≡ false) }
@@ -63,7 +63,7 @@ impl Frames {
     }
 
     /// Takes the innermost one off.
-    pub(crate) fn pop(&mut self) -> Option<Frame>
+    pub(crate) fn pop(&mut self) -> Option<OpenFrame>
         ensures frame { MatchOption result ((self.old ≡ []) × (self.new ≡ [])) (λ frame. self.old ≡ frame ∷ self.new) }
         ensures room { OnSome result (length self.new < 64) }
     {
@@ -83,7 +83,7 @@ impl Frames {
             return None;
         }
         match self.stack[self.len - 1] {
-            Frame::Else(condition, first) => Some((condition, first)),
+            OpenFrame::Else(condition, first) => Some((condition, first)),
             _ => None,
         }
     }

@@ -50,7 +50,7 @@ pub enum Bracket {
 
 /// What is open.
 #[derive(Clone, Copy)]
-pub enum Frame {
+pub enum OpenFrame {
     /// A `?` with its condition, before the `:`.
     Then(Found),
     /// A parenthesis, with what waits outside it.
@@ -83,7 +83,7 @@ pub enum Mode {
 /// What was read last; what waits in the innermost expression; what is open, innermost first; and whether a unit was
 /// read.
 #[derive(Drop)]
-pub struct State {
+pub struct ExprState {
     pub mode: Mode,
     pub pending: Pending,
     pub frames: Frames,

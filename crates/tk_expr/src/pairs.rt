@@ -9,7 +9,7 @@ ghost use Rattle.tk_expr.specs.Evaluated.{evaluated};
 ghost use Rattle.tk_expr.specs.Evaluates.{Evaluation, IsEvaluation};
 ghost use Rattle.tk_expr.specs.Pairs as spec;
 
-use crate::evaluation::evaluate;
+use crate::evaluation::eval;
 use crate::values::{Found, placed};
 use crate::{FontUnits, Value, ValuePair};
 use tk_item::Point;
@@ -20,7 +20,7 @@ use tk_token::{Code, Fault, Sought, Tok, before_char, first_outside, unbraced, w
 fn part_value(list: &[Tok], font: &FontUnits, at: u32) -> Result<Value, Fault>
     ensures { result ≡ spec.part_value evaluated font.now at list.now }
 {
-    evaluate(unbraced(list), font, at)
+    eval(unbraced(list), *font, at)
 }
 
 /// The form `x,y`, which has no second `,`.
@@ -50,6 +50,7 @@ fn radii(angle: Scaled, back: &[Tok], font: &FontUnits, at: u32) -> Result<Value
             Ok(ValuePair::Polar(angle, r, s))
         }
         None => {
+            // The checker copies no `Value` that is used twice, since a `Scaled` lies in it: so it is taken apart.
             let Value { number, unit } = part_value(back, font, at)?;
             Ok(ValuePair::Polar(angle, Value { number, unit }, Value { number, unit }))
         }
@@ -61,7 +62,7 @@ fn radii(angle: Scaled, back: &[Tok], font: &FontUnits, at: u32) -> Result<Value
 fn polar(front: &[Tok], back: &[Tok], font: &FontUnits, at: u32) -> Result<ValuePair, Fault>
     ensures { result ≡ spec.polar evaluated font.now at front.now back.now }
 {
-    let angle = evaluate(front, font, at)?;
+    let angle = eval(front, *font, at)?;
     radii(angle.number, back, font, at)
 }
 
@@ -94,7 +95,8 @@ fn paired(list: &[Tok], font: &FontUnits, at: u32) -> Result<Option<ValuePair>, 
 /// it is empty. A second `,` outside braces is refused as `Coordinate` at `at`, before any part is read.
 #[tactic(auto, using(crate::proofs::Evaluations::paired_by))]
 pub fn pair(list: &[Tok], font: FontUnits, at: u32) -> Result<Option<ValuePair>, Fault>
-    ensures { (ev : Evaluation) → IsEvaluation ev → result ≡ spec.paired ev font at list.now }
+    ensures gives { (ev : Evaluation) → IsEvaluation ev → result ≡ spec.paired ev font at list.now }
+    ensures value { result ≡ spec.paired evaluated font at list.now }
 {
     paired(list, &font, at)
 }

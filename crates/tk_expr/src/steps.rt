@@ -2,13 +2,13 @@
 
 ghost use Rattle.std.specs.Prelude.{◌≡◌, ◌∷◌, ◌<◌, [], List, length, Ok, Err, Some, OnSome, MatchOption};
 ghost use Rattle.tk_token.specs.declared.Code.TheVariants.{Expression};
-ghost use Rattle.tk_expr.specs.declared.machine.Frame.TheVariants.{Then};
+ghost use Rattle.tk_expr.specs.declared.machine.OpenFrame.TheVariants.{Then};
 ghost use Rattle.tk_expr.specs.Machine as spec;
 ghost use Rattle.tk_expr.specs.Steps.{Leads};
 
 use crate::FontUnits;
 use crate::frames::Frames;
-use crate::machine::{Bracket, Frame, Mode, Pending, State, Waiting};
+use crate::machine::{Bracket, ExprState, Mode, OpenFrame, Pending, Waiting};
 use crate::number::Decimal;
 use crate::operators::{Operator, Prefix};
 use crate::pieces::{Mark, Most, One, Piece, Two};
@@ -100,12 +100,12 @@ fn is_half(wanted: Mark, mark: Mark) -> bool
     }
 }
 
-impl State {
+impl ExprState {
     /// Before the first piece.
-    pub(crate) fn new() -> State
+    pub(crate) fn new() -> ExprState
         ensures { result ≡ spec.start }
     {
-        State {
+        ExprState {
             mode: Mode::Wanted,
             pending: Pending::new(),
             frames: Frames::new(),
@@ -131,7 +131,7 @@ impl State {
     }
 
     /// Opens a parenthesis or a `?`; TooDeep where 64 are open.
-    fn open(&mut self, frame: Frame, at: u32) -> Result<(), Fault>
+    fn open(&mut self, frame: OpenFrame, at: u32) -> Result<(), Fault>
         ensures { Leads result self.new (spec.with_frame at frame self.old) }
     {
         self.frames.push(frame, at)?;
@@ -140,7 +140,7 @@ impl State {
     }
 
     /// Puts a frame in the place of one that was taken off, and wants an operand within it.
-    fn go_on(&mut self, frame: Frame, at: u32) -> Result<(), Fault>
+    fn go_on(&mut self, frame: OpenFrame, at: u32) -> Result<(), Fault>
         requires { length self.old.frames < 64 }
         ensures { Leads result self.new (Ok (spec.wanted_in (frame ∷ self.old.frames) self.old)) }
     {
@@ -200,7 +200,7 @@ impl State {
             Mark::Minus => self.sign(Prefix::Negate, at),
             Mark::Plus => self.sign(Prefix::Keep, at),
             Mark::Bang => self.sign(Prefix::Not, at),
-            Mark::Left => self.open(Frame::Inside(Bracket::Plain, self.pending), at),
+            Mark::Left => self.open(OpenFrame::Inside(Bracket::Plain, self.pending), at),
             Mark::Gap => self.turn(Mode::Wanted),
             _ => Err(misfit(at)),
         }
@@ -234,7 +234,7 @@ impl State {
         ensures { Leads result self.new (spec.named bracket mark at self.old) }
     {
         match mark {
-            Mark::Left => self.open(Frame::Inside(bracket, self.pending), at),
+            Mark::Left => self.open(OpenFrame::Inside(bracket, self.pending), at),
             Mark::Gap => self.turn(Mode::Named(bracket)),
             _ => Err(misfit(at)),
         }
@@ -275,7 +275,7 @@ impl State {
     {
         let value = self.close(x);
         match self.frames.pop() {
-            Some(Frame::Inside(bracket, saved)) => self.end_bracket(bracket, value, saved, at),
+            Some(OpenFrame::Inside(bracket, saved)) => self.end_bracket(bracket, value, saved, at),
             _ => Err(misfit(at)),
         }
     }
@@ -310,7 +310,9 @@ impl State {
     {
         let value = self.close(x);
         match self.frames.pop() {
-            Some(Frame::Inside(bracket, saved)) => self.next_argument(bracket, value, saved, at),
+            Some(OpenFrame::Inside(bracket, saved)) => self.next_argument(
+                bracket, value, saved, at,
+            ),
             _ => Err(misfit(at)),
         }
     }
@@ -331,14 +333,14 @@ impl State {
             Bracket::Only(_, name) | Bracket::Second(_, name, _) => Err(misfit(name)),
             Bracket::First(function, name) => {
                 self.go_on(
-                    Frame::Inside(Bracket::Second(function, name, value), saved),
+                    OpenFrame::Inside(Bracket::Second(function, name, value), saved),
                     at,
                 )
             }
             Bracket::Each(function, first) => {
                 let least = most_found(function, first, value);
                 self.go_on(
-                    Frame::Inside(Bracket::Each(function, Some(least)), saved),
+                    OpenFrame::Inside(Bracket::Each(function, Some(least)), saved),
                     at,
                 )
             }
@@ -352,7 +354,7 @@ impl State {
     {
         let value = self.close(x);
         match self.frames.pop() {
-            Some(Frame::Then(condition)) => self.go_on(Frame::Else(condition, value), at),
+            Some(OpenFrame::Then(condition)) => self.go_on(OpenFrame::Else(condition, value), at),
             _ => Err(misfit(at)),
         }
     }
@@ -363,7 +365,7 @@ impl State {
             (spec.with_frame at (Then (spec.disjoined self.old.pending x)) self.old) }
     {
         let condition = self.pending.disjoined(x);
-        self.open(Frame::Then(condition), at)
+        self.open(OpenFrame::Then(condition), at)
     }
 
     /// A piece behind an operand.

@@ -13,9 +13,6 @@ use Rattle.tk_expand.proofs.Finished.{full_own}
 use Rattle.tk_expr.specs.declared.FontUnits.{FontUnits}
 use Rattle.tk_expr.specs.declared.Value.{Value}
 use Rattle.tk_expr.specs.Evaluated.{evaluated}
-use Rattle.tk_expr.specs.Evaluates.{Evaluates}
-use Rattle.tk_expr.proofs.OneAnswer.{a_text_has_one_answer}
-use Rattle.tk_expr.proofs.Runs.{evaluated_is_the_answer}
 use Rattle.tk_keys.specs.Environment.{Situation, with_text}
 use Rattle.tk_keys.specs.Settings.{ExpressionValue, expression_value, set_behind}
 use Rattle.tk_keys.specs.Views.{expanded_text, number_set, value_behind, given_by, situation_by}
@@ -29,9 +26,6 @@ text_own budget macros units at list text e same =
     (full_own budget macros from (sym e))
     ∙ ap (λ (o : Option (List ℕ)). (let answer : Answer (Option (List ℕ) × ℕ) = Ok (o, units) in answer)) (sym same)
 
-evaluated_is : (font : FontUnits) (at : ℕ) (toks : List Tok) (answer : Answer Value) → Evaluates font at toks answer → evaluated font at toks ≡ answer
-evaluated_is font at toks answer is = a_text_has_one_answer font at toks (evaluated font at toks) answer (evaluated_is_the_answer font at toks) is
-
 module _ (font : FontUnits) (budget : ℕ) (macros : Macros) (before at : ℕ) (list text toks : List Tok) (units : ℕ) (full_is : full budget macros
     (stream before (unread list at)) ≡ Ok (stream units (unread text at))) (same : toks ≡ text) where
   abbrev found_in : Stream → Answer ExpressionValue
@@ -42,15 +36,15 @@ module _ (font : FontUnits) (budget : ℕ) (macros : Macros) (before at : ℕ) (
       then_is (full budget macros (stream before (unread list at))) found_in (stream units (unread text at)) full_is
       ∙ ap (λ (ts : List Tok). found_in (stream units (unread ts at))) (sym same)
 
-  pub number_found : (found : Value) → Evaluates font at toks (Ok found)
+  pub number_found : (found : Value) → Ok found ≡ evaluated font at toks
       → expression_value (given_by font budget) at list (situation_by font macros before) ≡ Ok (value_behind found.number units)
   number_found found is = number_from ∙ ap (λ (a : Answer Value). a
-      >>= λ found. (let answer : Answer ExpressionValue = Ok (value_behind found.number units) in answer)) (evaluated_is font at toks (Ok found) is)
+      >>= λ found. (let answer : Answer ExpressionValue = Ok (value_behind found.number units) in answer)) (sym is)
 
-  pub number_fails : (fault : Fault) → Evaluates font at toks (Err fault)
+  pub number_fails : (fault : Fault) → Err fault ≡ evaluated font at toks
       → expression_value (given_by font budget) at list (situation_by font macros before) ≡ Err fault
   number_fails fault is = number_from ∙ ap (λ (a : Answer Value). a
-      >>= λ found. (let answer : Answer ExpressionValue = Ok (value_behind found.number units) in answer)) (evaluated_is font at toks (Err fault) is)
+      >>= λ found. (let answer : Answer ExpressionValue = Ok (value_behind found.number units) in answer)) (sym is)
 
 -- a word stands for the text of a number
 pub number_written : (written : ℤ → List ℕ) (at word : ℕ) (value : ℤ) (old new : Situation) (list : Unread) (text : List ℕ)

@@ -1,5 +1,5 @@
 pub mod DashCounts
-pub mod Evaluations
+pub mod MadeBySteps
 pub mod Parentheses
 pub mod Places
 pub mod Splitting

@@ -2,6 +2,7 @@ pub mod Applied
 pub mod Colours
 pub mod Dashes
 pub mod Looks
+pub mod Strokes
 pub mod Values
 pub mod Words
 pub mod Pieces

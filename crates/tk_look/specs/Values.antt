@@ -102,10 +102,14 @@ module _ (at : ℕ) where
     anchor_by (Some anchor) list = Ok anchor
     anchor_by None list = as_anchor (ev font at list)
 
+    -- the anchor of a text: `north east`, or `60`
+    abbrev pub anchor_in_text : List Tok → Answer Anchor
+    anchor_in_text list = anchor_by (found_in anchors list) list
+
     abbrev pub anchor_value : Option (List Tok) → Answer Anchor
     anchor_value value = do
       list ← value_there value
-      anchor_by (found_in anchors list) list
+      anchor_in_text list
 
     -- the vector of `(1,2)` or another pair in parentheses, with Spaces round it, by the vectors of a look
     unfoldable pub vector_value : Look → List Tok → Answer Point

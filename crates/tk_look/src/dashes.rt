@@ -6,8 +6,7 @@ ghost use Rattle.tk_token.specs.Groups.{cut};
 ghost use Rattle.tk_expr.specs.Evaluated.{evaluated};
 ghost use Rattle.tk_look.specs.Dashes as spec;
 
-use crate::values::evaluate;
-use tk_expr::FontUnits;
+use tk_expr::{FontUnits, eval};
 use tk_item::Dashes;
 use tk_num::Scaled;
 use tk_token::{Code, Fault, Sought, Tok, after_spaces, begins_pair, begins_three, first_outside};
@@ -85,7 +84,7 @@ fn dash_length(list: &[Tok], font: FontUnits, at: u32) -> Result<Scaled, Fault>
     ensures value { result ≡ spec.dash_length at evaluated font list.now }
     ensures sign { IfOk result (λ length. pos 0 ≤ℤ length) }
 {
-    let length = evaluate(list, font, at)?.number;
+    let length = eval(list, font, at)?.number;
     if length.sp() < 0 {
         return Err(Fault::new(Code::Domain, at));
     }

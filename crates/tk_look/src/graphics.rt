@@ -7,7 +7,7 @@ ghost use Rattle.tk_expr.specs.Evaluated.{evaluated};
 ghost use Rattle.tk_expr.specs.Evaluates.{Evaluation, IsEvaluation};
 ghost use Rattle.tk_look.specs.Graphics as spec;
 
-use crate::steps::Steps;
+use crate::steps::KeySteps;
 use crate::{GraphicsState, Look};
 use std::alloc::Global;
 use tk_affine::{AffFault, Matrix, answer_at, concat, identity};
@@ -75,7 +75,7 @@ impl GraphicsState {
 }
 
 /// The matrix with steps behind its own.
-fn with_steps(matrix: Matrix, steps: &Steps) -> Result<Matrix, AffFault>
+fn with_steps(matrix: Matrix, steps: &KeySteps) -> Result<Matrix, AffFault>
     ensures { result ≡ with_steps matrix steps.now.items }
 {
     let mut moved = matrix;

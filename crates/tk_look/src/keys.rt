@@ -9,7 +9,7 @@ ghost use Rattle.tk_look.specs.Applied as spec;
 use crate::colours::colour;
 use crate::dashes::pattern_value;
 use crate::steps::{
-    Steps, facing, matrix_step, one_step, shift_by, shift_to, step_of, turn_around,
+    KeySteps, facing, matrix_step, one_step, shift_by, shift_to, step_of, turn_around,
 };
 use crate::values::{
     anchor_value, cap_value, colour_value, join_value, limit_value, measure_value, number_value,
@@ -142,6 +142,7 @@ impl Look {
     fn set_measure(&mut self, key: MeasureKey, value: Value)
         ensures { self.new ≡ spec.with_measure key value self.old }
     {
+        // The checker copies no `Value` that is used twice, since a `Scaled` lies in it: so it is taken apart.
         let Value { number, unit } = value;
         match key {
             MeasureKey::Radius => {
@@ -286,7 +287,7 @@ impl Look {
         value: Option<&[Tok]>,
         font: FontUnits,
         at: u32,
-    ) -> Result<Steps, Fault>
+    ) -> Result<KeySteps, Fault>
         ensures { MatchResult result
             (λ steps. spec.transformed at evaluated font key (option_copied value.entry) self.old
             ≡ Ok (spec.stepping self.new steps.items))
@@ -315,7 +316,7 @@ impl Look {
         value: Option<&[Tok]>,
         font: FontUnits,
         at: u32,
-    ) -> Result<Steps, Refusal>
+    ) -> Result<KeySteps, Refusal>
         ensures { Gives (λ steps. spec.stepping self.new steps.items) result
             (spec.native_applied at evaluated font key name.now (option_copied value.entry) self.old) }
     {

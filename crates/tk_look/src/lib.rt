@@ -7,20 +7,25 @@ mod dashes;
 mod graphics;
 mod initial;
 mod keys;
+mod laws;
 mod lengths;
 mod names;
 mod steps;
+mod strokes;
 mod values;
 mod words;
 
 pub use colours::colour;
 pub use keys::apply;
+pub use laws::a_matrix_is_that_of_its_steps;
 pub use lengths::{LineWidth, MiterLimit, Position};
 pub use names::NodeName;
+pub use strokes::{look_fill, look_reach, look_stroke};
 use tk_affine::{Anchor, Matrix, Shape};
 use tk_expr::Value;
 use tk_item::{Cap, Dashes, Join, Rgb, Rule};
 use tk_num::Scaled;
+pub use values::anchor_in_text;
 
 /// How what follows is painted and placed. Lengths are in scaled points, angles in 65536ths of a degree, and a `Value`
 /// without a unit counts vectors of the picture.

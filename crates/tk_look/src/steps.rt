@@ -11,10 +11,10 @@ ghost use Rattle.tk_look.specs.Applied as spec;
 ghost use Rattle.tk_num.specs.Number.{product};
 
 use crate::Look;
-use crate::values::{evaluate, vector_value};
+use crate::values::vector_value;
 use arrayvec::ArrayVec;
 use tk_affine::{Anchor, Matrix, Step};
-use tk_expr::FontUnits;
+use tk_expr::{FontUnits, eval};
 use tk_item::Point;
 use tk_native::{Side, StepKey};
 use tk_num::{ONE, Scaled, mul};
@@ -83,10 +83,10 @@ pub(crate) fn facing(side: Side) -> Anchor
 }
 
 /// The steps that a key makes.
-pub(crate) type Steps = ArrayVec<Step, 3>;
+pub(crate) type KeySteps = ArrayVec<Step, 3>;
 
 /// One step alone.
-pub(crate) fn one_step(step: Step) -> Steps
+pub(crate) fn one_step(step: Step) -> KeySteps
     ensures { result.items ≡ step ∷ [] }
 {
     let mut steps = ArrayVec::new();
@@ -109,7 +109,7 @@ pub(crate) fn turn_around(
     list: &[Tok],
     font: FontUnits,
     at: u32,
-) -> Result<Steps, Fault>
+) -> Result<KeySteps, Fault>
     ensures { MatchResult result
         (λ steps. spec.turn_around at evaluated font list.now look.now ≡ Ok steps.items)
         (λ fault. spec.turn_around at evaluated font list.now look.now ≡ Err fault) }
@@ -117,7 +117,7 @@ pub(crate) fn turn_around(
     let Some((angle, place)) = before_char(list, ':') else {
         return Err(Fault::new(Code::Domain, at));
     };
-    let angle = evaluate(angle, font, at)?.number;
+    let angle = eval(angle, font, at)?.number;
     let Point { x, y } = vector_value(look, place, font, at)?;
     let mut steps = ArrayVec::new();
     steps.push(Step::Shift(x, y));
@@ -152,10 +152,10 @@ pub(crate) fn matrix_step(
     let (second, list) = before_comma(list, at)?;
     let (third, list) = before_comma(list, at)?;
     let (fourth, list) = before_comma(list, at)?;
-    let a = evaluate(first, font, at)?.number;
-    let b = evaluate(second, font, at)?.number;
-    let c = evaluate(third, font, at)?.number;
-    let d = evaluate(fourth, font, at)?.number;
+    let a = eval(first, font, at)?.number;
+    let b = eval(second, font, at)?.number;
+    let c = eval(third, font, at)?.number;
+    let d = eval(fourth, font, at)?.number;
     let Point { x, y } = vector_value(look, list, font, at)?;
     Ok(Step::Cm(Matrix {
         a,

@@ -4,7 +4,7 @@ ghost use Rattle.std.specs.Prelude.{◌≡◌, pos, option_map, option_copied, s
 ghost use Rattle.tk_token.specs.Refusals.{Gives};
 ghost use Rattle.tk_look.specs.Views.{text_there};
 ghost use Rattle.tk_expr.specs.Evaluated.{evaluated};
-ghost use Rattle.tk_expr.specs.Pairs.{paired};
+ghost use Rattle.tk_expr.specs.Evaluates.{Evaluation, IsEvaluation};
 ghost use Rattle.tk_look.specs.Values as spec;
 ghost use Rattle.tk_look.specs.Applied as native;
 ghost use Rattle.tk_look.specs.Words.{caps, joins, shapes, anchors};
@@ -14,27 +14,19 @@ use crate::words::{anchor_named, cap_named, join_named, shape_named};
 use crate::{LineWidth, Look, MiterLimit, Position};
 use std::alloc::{AllocError, Global};
 use tk_affine::{Anchor, Shape};
-use tk_expr::{FontUnits, Value, ValuePair, eval, pair, vector};
+use tk_expr::{FontUnits, Value, eval, pair, vector};
 use tk_item::{Cap, Join, Point, Rgb};
 use tk_num::Scaled;
 use tk_token::{Code, Fault, Refusal, Tok, text_in, trimmed};
 
 // ---- numbers
 
-/// The value of an expression.
-#[tactic(auto, using(crate::proofs::Evaluations::answer_is))]
-pub(crate) fn evaluate(list: &[Tok], font: FontUnits, at: u32) -> Result<Value, Fault>
-    ensures { result ≡ evaluated font at list.now }
-{
-    eval(list, font, at)
-}
-
 /// A value that is an expression.
 pub(crate) fn measure_value(value: Option<&[Tok]>, font: FontUnits, at: u32) -> Result<Value, Fault>
     ensures { result ≡ spec.measure_value at evaluated font (option_copied value.entry) }
 {
     match value {
-        Some(list) => evaluate(list, font, at),
+        Some(list) => eval(list, font, at),
         None => Err(Fault::new(Code::ValueRequired, at)),
     }
 }
@@ -154,7 +146,37 @@ fn anchor_by_name(alloc: Global, list: &[Tok]) -> Result<Option<Anchor>, AllocEr
     }
 }
 
-/// The name of an anchor, or an angle.
+/// What `anchor_in_text` gives, where the values of expressions are those of the machine.
+fn anchor_by_machine(
+    alloc: Global,
+    list: &[Tok],
+    font: FontUnits,
+    at: u32,
+) -> Result<Anchor, Refusal>
+    ensures { Gives (λ anchor. anchor) result (spec.anchor_in_text at evaluated font list.now) }
+{
+    match anchor_by_name(alloc, list)? {
+        Some(anchor) => Ok(anchor),
+        None => Ok(as_anchor(eval(list, font, at), at)?),
+    }
+}
+
+/// The anchor of a text: one of that name (`north east`), or the place on the border at the angle that the text is as an
+/// expression (`60`), in degrees. A text that is neither is refused as `NoAnchor` at `at`; other faults of expressions
+/// stand where `eval` puts them.
+pub fn anchor_in_text(
+    alloc: Global,
+    list: &[Tok],
+    font: FontUnits,
+    at: u32,
+) -> Result<Anchor, Refusal>
+    ensures { (ev : Evaluation) → IsEvaluation ev
+        → Gives (λ anchor. anchor) result (spec.anchor_in_text at ev font list.now) }
+{
+    anchor_by_machine(alloc, list, font, at)
+}
+
+/// A value that is the text of an anchor.
 pub(crate) fn anchor_value(
     alloc: Global,
     value: Option<&[Tok]>,
@@ -163,12 +185,9 @@ pub(crate) fn anchor_value(
 ) -> Result<Anchor, Refusal>
     ensures { Gives (λ anchor. anchor) result (spec.anchor_value at evaluated font (option_copied value.entry)) }
 {
-    let Some(list) = value else {
-        return Err(Refusal::new(Code::ValueRequired, at));
-    };
-    match anchor_by_name(alloc, list)? {
-        Some(anchor) => Ok(anchor),
-        None => Ok(as_anchor(evaluate(list, font, at), at)?),
+    match value {
+        Some(list) => anchor_by_machine(alloc, list, font, at),
+        None => Err(Refusal::new(Code::ValueRequired, at)),
     }
 }
 
@@ -196,13 +215,6 @@ fn between_parentheses(list: &[Tok]) -> Option<&[Tok]>
     }
 }
 
-/// The numbers of a pair.
-fn numbers(list: &[Tok], font: FontUnits, at: u32) -> Result<Option<ValuePair>, Fault>
-    ensures { result ≡ paired evaluated font at list.now }
-{
-    pair(list, font, at)
-}
-
 /// The vector of a pair in parentheses, by the vectors of a look.
 #[tactic(auto, unfolding(crate::specs::Values::vector_value))]
 pub(crate) fn vector_value(
@@ -216,7 +228,7 @@ pub(crate) fn vector_value(
     let Some(text) = between_parentheses(trimmed(list)) else {
         return Err(Fault::new(Code::Coordinate, at));
     };
-    let Some(found) = numbers(text, font, at)? else {
+    let Some(found) = pair(text, font, at)? else {
         return Err(Fault::new(Code::Coordinate, at));
     };
     vector(found, look.x, look.y, at)

@@ -5,7 +5,7 @@ use Rattle.tk_characters.specs.Characters.{left_parenthesis, right_parenthesis, 
 use Rattle.tk_item.specs.declared.Point.{Point}
 use Rattle.tk_token.specs.declared.Code.TheVariants.{Coordinate}
 use Rattle.tk_token.specs.declared.Tok.{Tok}
-use Rattle.tk_token.specs.Answers.{◌>>=◌, or_fault}
+use Rattle.tk_token.specs.Answers.{Answer, ◌>>=◌, or_fault}
 use Rattle.tk_token.specs.Groups.{Cut, before_char}
 use Rattle.tk_token.specs.Kinds.{is_char, is_space}
 use Rattle.tk_token.proofs.Outside.{before_char_keeps, before_char_shorter}
@@ -14,8 +14,9 @@ use Rattle.tk_expand.specs.Expand.{Stream, stream, full}
 use Rattle.tk_expand.specs.Reading.{is_there}
 use Rattle.tk_expand.proofs.NextPlaces.{place_at}
 use Rattle.tk_expand.proofs.Places.{StandAt, Stands, StreamAt, CutAt, full_at}
-use Rattle.tk_coord.specs.Coordinates.{point_of}
-use Rattle.tk_coord.proofs.Places.{point_fine}
+use Rattle.tk_coord.specs.declared.TextTarget.{TextTarget}
+use Rattle.tk_coord.specs.Coordinates.{target_of}
+use Rattle.tk_coord.proofs.Places.{target_fine}
 use Rattle.tk_keys.specs.Given.{Given}
 use Rattle.tk_keys.proofs.DeedPlaces.{EvaluatesAt}
 use Rattle.tk_keys.proofs.Spending.{full_spends}
@@ -24,7 +25,7 @@ use Rattle.tk_path.specs.declared.coordinate.Sign.{Sign}
 use Rattle.tk_path.specs.declared.coordinate.Sign.TheVariants as signs
 use Rattle.tk_path.specs.Configurations.{Configuration, Reached, Lookahead, lookahead, place_ahead, must_be, token_ahead, ahead_of}
 use Rattle.tk_path.specs.Coordinates.{Written, start_of, behind_parenthesis, parenthesized, past_spaces_from, behind_plus, coordinate_from}
-use Rattle.tk_path.specs.Coordinates.{coordinate_point}
+use Rattle.tk_path.specs.Coordinates.{point_of_target, coordinate_point}
 use Rattle.tk_path.specs.Keys.{with_list}
 use Rattle.tk_path.proofs.Moving.{At, Comes, Advances, Looks, comes, comes_then, advances_then, then_advances, then_looks, looked, must_at, ahead_at}
 use Rattle.tk_path.proofs.Moving.{token_at, took_then, looked_then}
@@ -117,6 +118,11 @@ module _ (P : ℕ → Type 0) (given : Given) where
 
   -- ---- points
 
+  target_point_at : (found : Answer TextTarget) → Stands P (λ (target : TextTarget). Unit {0}) found
+      → Stands P (λ (p : Point). Unit {0}) (point_of_target found)
+  unfolding point_of_target
+  target_point_at found h = then_at P (λ (target : TextTarget). Unit {0}) (λ (p : Point). Unit {0}) found _ h (λ target _. tt)
+
   module _ (evaluates : EvaluatesAt P given) where
     pub point_at : (from : Point) (w : Written) (c : Configuration) → WrittenAt w → At P given c
         → Stands P (Reads AnyValue c) (coordinate_point given from w c)
@@ -127,11 +133,11 @@ module _ (P : ℕ → Type 0) (given : Given) where
         (both_at P (StreamAt P) (λ (r : Stream). c.picture.units ≤ r.units) (full given.budget c.env.macros inside)
         (full_at P given.budget c.env.macros h.env.bodies inside k.text) (full_spends given.budget c.env.macros inside)) (λ text a.
         let g = c.env.graphics in
-        then_at P (λ (p : Point). Unit {0}) (Reads AnyValue c) (point_of given.evaluate given.font g.look g.matrix w.at (start_of w.sign from)
-        text.list.rest) _
-        (only_fault P (point_of given.evaluate given.font g.look g.matrix w.at (start_of w.sign from) text.list.rest)
-        (point_fine P w.at k.place given.evaluate given.font g.look g.matrix (λ ts l. evaluates w.at ts k.place l) (start_of w.sign from)
-        text.list.rest a.0)) (λ p _. (
+        let target = target_of given.evaluate given.font g.look g.matrix w.at (start_of w.sign from) text.list.rest in
+        then_at P (λ (p : Point). Unit {0}) (Reads AnyValue c) (point_of_target target) _
+        (target_point_at target (only_fault P (target_of given.evaluate given.font g.look g.matrix w.at (start_of w.sign from) text.list.rest)
+        (target_fine P w.at k.place given.evaluate given.font g.look g.matrix (λ ts l. evaluates w.at ts k.place l) (start_of w.sign from)
+        text.list.rest a.0))) (λ p _. (
           tt,
           record {
             fell = record { end = refl; units = a.1; work_falls = (let b = a.1 in omega arith) };

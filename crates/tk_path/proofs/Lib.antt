@@ -1,4 +1,5 @@
 pub mod CoordinateMoves
+pub mod FittingStrokes
 pub mod KeyMoves
 pub mod GridPlaces
 pub mod Kept

@@ -11,7 +11,8 @@ use Rattle.tk_expand.specs.Expand.{stream, full}
 use Rattle.tk_expand.specs.Reading.{is_there}
 use Rattle.tk_expand.specs.Unread.{unread}
 use Rattle.tk_keys.specs.Given.{Given}
-use Rattle.tk_coord.specs.Coordinates.{point_of}
+use Rattle.tk_coord.specs.declared.TextTarget.{TextTarget}
+use Rattle.tk_coord.specs.Coordinates.{target_of}
 use Rattle.tk_path.specs.declared.coordinate.Sign.{Sign}
 use Rattle.tk_path.specs.declared.coordinate.Sign.TheVariants as signs
 use Rattle.tk_path.specs.Configurations.{Configuration, with_stream, Reached, reached, Lookahead, place_ahead, must_be}
@@ -31,6 +32,10 @@ abbrev pub start_of : Sign → Point → Option Point
 start_of signs.Absolute from = None
 start_of signs.Relative from = Some from
 start_of signs.Leading from = Some from
+
+-- the point of what a coordinate's text stands for
+unfoldable pub point_of_target : Answer TextTarget → Answer Point
+point_of_target found = found >>= λ target. Ok target.point
 
 -- whether the reference point goes there, which a single `+` keeps
 abbrev pub leads : Sign → Bool
@@ -75,5 +80,5 @@ module _ (given : Given) where
   coordinate_point from w c = do
     text ← full given.budget c.env.macros (stream c.picture.units (unread w.text w.at))
     let g = c.env.graphics
-    point ← point_of given.evaluate given.font g.look g.matrix w.at (start_of w.sign from) text.list.rest
+    point ← point_of_target (target_of given.evaluate given.font g.look g.matrix w.at (start_of w.sign from) text.list.rest)
     Ok (reached point (with_stream c (stream text.units c.list)))

@@ -1,13 +1,12 @@
 -- A picture as far as it is drawn.
-use Rattle.std.specs.Prelude.{ℕ, ◌||◌, if◌then◌else◌, List, [], ◌∷◌, ◌++◌, Option, None, Some, ℤ, pos}
-use Rattle.tk_item.specs.declared.Fill.{Fill}
+use Rattle.std.specs.Prelude.{ℕ, ◌||◌, if◌then◌else◌, List, [], ◌∷◌, ◌++◌, Option, None}
 use Rattle.tk_item.specs.declared.Frame.{Frame}
 use Rattle.tk_item.specs.declared.Item.{Item}
 use Rattle.tk_item.specs.declared.Item.TheVariants.{Path}
 use Rattle.tk_item.specs.declared.Seg.{Seg}
-use Rattle.tk_item.specs.declared.Stroke.{Stroke}
-use Rattle.tk_item.specs.Frame.{half_width, points_of_path, round_points}
+use Rattle.tk_item.specs.Frame.{points_of_path, round_points}
 use Rattle.tk_look.specs.declared.Look.{Look}
+use Rattle.tk_look.specs.Strokes.{look_fill, look_stroke, look_reach}
 use Rattle.tk_path.specs.CurrentPaths.{CurrentPath, no_path}
 
 -- a picture so far: its items, the frame round them, the units paid, and the path that is being read
@@ -24,26 +23,6 @@ first_picture = record { items = []; frame = None; units = 0; path = no_path }
 -- another path is being read
 abbrev pub with_path : CurrentPath → Picture → Picture
 with_path path pic = record pic { path = path }
-
--- how a look fills a path
-abbrev pub look_fill : Look → Option Fill
-look_fill look = if look.fill_on then Some (record { rgb = look.fill; rule = look.fill_rule }) else None
-
--- how a look draws a path
-abbrev pub look_stroke : Look → Option Stroke
-look_stroke look = if look.draw_on then Some (record {
-  rgb = look.draw;
-  width = look.line_width;
-  cap = look.line_cap;
-  join = look.line_join;
-  miter = look.miter_limit;
-  dash = look.dash_pattern;
-  phase = look.dash_phase;
-}) else None
-
--- how far a path reaches round its points
-abbrev pub look_reach : Look → ℤ
-look_reach look = if look.draw_on then half_width look.line_width else pos 0
 
 -- the item that a path is, if it is drawn or filled
 abbrev pub path_items : Look → List Seg → List Item

@@ -8,13 +8,13 @@ ghost use Rattle.tk_token.specs.Groups.{cut, before_char};
 ghost use Rattle.tk_token.specs.Refusals.{Gives};
 ghost use Rattle.tk_expand.specs.Unread.{Unread};
 ghost use Rattle.tk_expr.specs.Evaluated.{evaluated};
-ghost use Rattle.tk_coord.specs.Coordinates.{point_of};
+ghost use Rattle.tk_coord.specs.Coordinates.{target_of};
 ghost use Rattle.tk_path.specs.Coordinates as spec;
 ghost use Rattle.tk_path.specs.CurrentPaths.{CurrentPath as ACurrentPath};
 ghost use Rattle.tk_path.specs.Views.{given_to, configuration_of, lookahead_of, reached_at, written_of, OnlyPays};
 
 use crate::drawer::Drawer;
-use tk_coord::resolve;
+use tk_coord::{TextTarget, resolve};
 use tk_expand::{Input, is_there};
 use tk_item::Point;
 use tk_token::{Code, Refusal, Tok};
@@ -161,12 +161,31 @@ impl Drawer {
 
     /// The point of a coordinate whose text was expanded and whose `(` stands at that place, relative to a point if
     /// there is one.
+    #[tactic(auto, unfolding(crate::specs::Coordinates::point_of_target))]
     fn point_of_text(&self, text: &[Tok], from: Option<Point>, at: u32) -> Result<Point, Refusal>
-        ensures { Gives (λ point. point) result (point_of evaluated self.now.state.font self.now.state.graphics.look
-            self.now.state.graphics.matrix at from text.now) }
+        ensures { Gives (λ point. point) result (spec.point_of_target (target_of evaluated self.now.state.font
+            self.now.state.graphics.look self.now.state.graphics.matrix at from text.now)) }
+    {
+        // The checker has a bug at a `?` here: it isn't told in which modules `NodeRecord` stands.
+        match self.target_of_text(text, from, at) {
+            Ok(target) => Ok(target.point),
+            Err(refusal) => Err(refusal),
+        }
+    }
+
+    /// What the text of a coordinate stands for that was expanded and whose `(` stands at that place, relative to a
+    /// point if there is one.
+    fn target_of_text(
+        &self,
+        text: &[Tok],
+        from: Option<Point>,
+        at: u32,
+    ) -> Result<TextTarget, Refusal>
+        ensures { Gives (λ target. target) result (target_of evaluated self.now.state.font
+            self.now.state.graphics.look self.now.state.graphics.matrix at from text.now) }
     {
         let graphics = self.state.graphics();
-        let target = resolve(
+        resolve(
             self.state.allocator(),
             text,
             &graphics.look,
@@ -174,8 +193,7 @@ impl Drawer {
             self.state.font_units(),
             from,
             at,
-        )?;
-        Ok(target.point)
+        )
     }
 }
 

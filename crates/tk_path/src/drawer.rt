@@ -1,8 +1,8 @@
 //! A picture as it is drawn, and what stands next in its list.
 
-ghost use Rattle.std.specs.Prelude.{◌≡◌, ◌≤ℤ◌, pos, OnOk, ◌++◌};
+ghost use Rattle.std.specs.Prelude.{◌≡◌, OnOk, ◌++◌};
 ghost use Rattle.std.specs.List.{AllByRecursion};
-ghost use Rattle.tk_svg.specs.Fitting.{BeginsWithMove, FitsItem, FitsStroke, IsPath};
+ghost use Rattle.tk_svg.specs.Fitting.{BeginsWithMove, FitsItem, IsPath};
 ghost use Rattle.tk_expr.specs.Evaluates.{Evaluation};
 ghost use Rattle.tk_keys.specs.State.{given_of};
 ghost use Rattle.tk_token.specs.Refusals.{Gives};
@@ -15,9 +15,9 @@ ghost use Rattle.tk_path.specs.Views.{given_to, picture_of, configuration_of, lo
 use crate::current_path::CurrentPath;
 use std::alloc::AllocError;
 use tk_expand::Input;
-use tk_item::{Fill, Frame, Item, Items, Segs, Stroke, half_width, widen};
+use tk_item::{Frame, Item, Items, Segs, widen};
 use tk_keys::State;
-use tk_look::Look;
+use tk_look::{Look, look_fill, look_reach, look_stroke};
 use tk_token::{Code, Refusal, Tok};
 
 /// What a part of a run leaves: more parts follow, or the end was met.
@@ -77,6 +77,7 @@ impl Drawer {
 }
 
 /// Puts a path at the end of items, if a look fills or draws it.
+#[tactic(auto, using(crate::proofs::FittingStrokes::stroke_fits))]
 fn push_path(items: &mut Items, segs: Segs, look: &Look) -> Result<(), AllocError>
     requires { BeginsWithMove segs }
     ensures items { OnOk result (items.new ≡ items.old ++ pictures.path_items look.now segs) }
@@ -87,51 +88,6 @@ fn push_path(items: &mut Items, segs: Segs, look: &Look) -> Result<(), AllocErro
         return Ok(());
     }
     items.push(Item::Path(segs, look_fill(look), look_stroke(look)))
-}
-
-/// How a look fills a path.
-fn look_fill(look: &Look) -> Option<Fill>
-    ensures { result ≡ pictures.look_fill look.now }
-{
-    if !look.fill_on {
-        return None;
-    }
-    Some(Fill {
-        rgb: look.fill,
-        rule: look.fill_rule,
-    })
-}
-
-/// How a look draws a path.
-fn look_stroke(look: &Look) -> Option<Stroke>
-    ensures stroke { result ≡ pictures.look_stroke look.now }
-    ensures fits { FitsStroke result }
-{
-    if !look.draw_on {
-        return None;
-    }
-    Some(Stroke {
-        rgb: look.draw,
-        width: look.line_width.length(),
-        cap: look.line_cap,
-        join: look.line_join,
-        miter: look.miter_limit.number(),
-        dash: look.dash_pattern.copy(),
-        phase: look.dash_phase,
-    })
-}
-
-/// How far a path reaches round its points: half the width of its lines, if it is drawn.
-fn look_reach(look: &Look) -> i64
-    ensures value { result ≡ pictures.look_reach look.now }
-    ensures sign { pos 0 ≤ℤ result }
-    ensures most { result ≤ℤ pos 536870912 }
-{
-    if look.draw_on {
-        half_width(look.line_width.length())
-    } else {
-        0
-    }
 }
 
 /// The fault of a token that fits nothing on a path.

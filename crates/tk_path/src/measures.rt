@@ -145,14 +145,6 @@ impl Measures {
     }
 }
 
-/// The value of an expression.
-#[tactic(auto, using(tk_look::proofs::Evaluations::answer_is))]
-fn value_in(text: &[Tok], font: &FontUnits, at: u32) -> Result<Value, Fault>
-    ensures { result ≡ evaluated font.now at text.now }
-{
-    eval(text, *font, at)
-}
-
 /// The radii of a text, `r and s` or `r`, which is both; `at` is the place of an empty one.
 #[tactic(auto, unfolding(crate::specs::Measures::radii_in))]
 pub(crate) fn radii_in(text: &[Tok], font: &FontUnits, at: u32) -> Result<Radii, Fault>
@@ -169,8 +161,8 @@ fn two_radii(first: &[Tok], second: &[Tok], font: &FontUnits, at: u32) -> Result
     ensures { result ≡ evaluated font.now at first.now
         followed_by (λ x. evaluated font.now at second.now followed_by (λ y. Ok (record { x = x; y = y }))) }
 {
-    let x = value_in(first, font, at)?;
-    let y = value_in(second, font, at)?;
+    let x = eval(first, *font, at)?;
+    let y = eval(second, *font, at)?;
     Ok(Radii { x, y })
 }
 
@@ -178,7 +170,7 @@ fn two_radii(first: &[Tok], second: &[Tok], font: &FontUnits, at: u32) -> Result
 fn one_radius(text: &[Tok], font: &FontUnits, at: u32) -> Result<Radii, Fault>
     ensures { result ≡ evaluated font.now at text.now followed_by (λ r. Ok (record { x = r; y = r })) }
 {
-    let radius = &value_in(text, font, at)?;
+    let radius = &eval(text, *font, at)?;
     Ok(Radii {
         x: *radius,
         y: *radius,
@@ -212,8 +204,8 @@ fn sweep_in(from: &[Tok], to: &[Tok], font: &FontUnits, at: u32) -> Result<Sweep
         followed_by (λ a. spec.angle_in evaluated font.now at to.now
         followed_by (λ b. Ok (record { from = a; to = b }))) }
 {
-    let from = value_in(from, font, at)?.number;
-    let to = value_in(to, font, at)?.number;
+    let from = eval(from, *font, at)?.number;
+    let to = eval(to, *font, at)?.number;
     Ok(Sweep { from, to })
 }
 

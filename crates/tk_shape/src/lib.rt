@@ -1,0 +1,20 @@
+//! Nodes as a picture keeps them (the PGF manual, section "Nodes and Edges").
+#![tactic(auto)]
+
+use tk_affine::{Matrix, Shape};
+use tk_num::Scaled;
+
+/// What a picture keeps of a node, by which its anchors and the points of its border are found. Lengths are in scaled
+/// points and lie along the node's own axes, from its centre.
+#[derive(Clone, Copy, PartialEq, Eq)]
+pub struct NodeRecord {
+    pub shape: Shape,
+    /// It takes the node's own axes to the picture, its centre to the place of its shift.
+    pub matrix: Matrix,
+    /// How far the anchors on the right lie from the centre.
+    pub half_width: Scaled,
+    /// The same of those above.
+    pub half_height: Scaled,
+    /// How far above the centre the base line of its text lies.
+    pub base: Scaled,
+}
