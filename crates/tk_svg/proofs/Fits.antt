@@ -1,5 +1,5 @@
 -- Whatever a document stands for fits the form.
-use Rattle.std.proofs.Common.{◌≡◌, ℕ, zero, suc, ◌+◌, ◌≤◌, Bool, ◌&&◌, true, false, cond, eqb, ltb, leb, List, [], ◌∷◌, length, Option, Some, None}
+use Rattle.std.proofs.Common.{◌≡◌, ℕ, zero, suc, ◌+◌, ◌≤◌, Bool, ◌&&◌, true, false, cond, eqb, ltb, leb, List, [], ◌∷◌, ◌++◌, length, Option, Some, None}
 use Rattle.std.proofs.Common.{refl, sym, subst, arith}
 use Rattle.std.specs.Prelude.{ℤ, pos, negsuc, neg_ℤ, ◌+ℤ◌, ◌-ℤ◌, ◌≤ℤ◌, int_le, unsigned_abs, codes, option_map}
 use Rattle.std.specs.List.{AllByRecursion}
@@ -19,9 +19,10 @@ use Rattle.tk_svg.specs.Scan.{Attribute, value_of, digits_of, after_digits, digi
 use Rattle.tk_svg.specs.Scan.{numbers_of, lone_number, scaled_of, is_empty, behind_separator}
 use Rattle.tk_svg.specs.PathData.{PathCommand, MoveTo, scaled_point, command_piece, command_pieces}
 use Rattle.tk_svg.specs.Paint.{value_or_initial, paint_of, is_length, length_value, cap_of, join_of, miter_of, dashes_of, stroke_of}
-use Rattle.tk_svg.specs.Document.{IsPathElement, Content, ends, path, IsDocument}
+use Rattle.tk_svg.specs.Document.{IsPathElement, Content, ends, path, text, group, IsDocument}
 use Rattle.tk_svg.specs.Fitting.{BeginsWithMove, FitsStroke, FitsItem, FitsBox, Fits}
 use Rattle.tk_svg.proofs.Unique.{and_true}
+use Rattle.tk_svg.proofs.Labels.{label_fits}
 
 -- ---- steps that did not fail
 
@@ -143,18 +144,24 @@ stroke_fits a stroke e =
     let is : option_map pen s1.0 ≡ stroke = cc (s7.2) in
     pen_fits s1.0 pen stroke (λ rgb. (length_sign _ s2.0 s2.1, miter_least _ s5.0 s5.1)) is
 
-path_fits : (a : List Attribute) (item : Item) → IsPathElement a item → FitsItem item
-path_fits a item p =
+path_fits : (own inherited : List Attribute) (item : Item) → IsPathElement own inherited item → FitsItem item
+path_fits own inherited item p =
     let here : FitsItem (Path p.segs p.fill p.stroke) = (
       first_command_begins p.segs p.segs_are.args p.segs_are.others p.segs_are.meaning,
-      stroke_fits
-          a p.stroke p.stroke_is,
+      stroke_fits (own ++ inherited) p.stroke p.stroke_is,
     ) in
     subst FitsItem (sym p.is) here
 
-items_fit : {bytes rest : List ℕ} {items : List Item} → Content bytes items rest → AllByRecursion FitsItem items
+all_fit : (xs ys : List Item) → AllByRecursion FitsItem xs → AllByRecursion FitsItem ys → AllByRecursion FitsItem (xs ++ ys)
+all_fit [] ys h i = i
+all_fit (x ∷ xs) ys h i = (h.0, all_fit xs ys h.1 i)
+
+items_fit : {depth : ℕ} {inherited : List Attribute} {bytes rest : List ℕ} {items : List Item} → Content depth inherited bytes items rest
+    → AllByRecursion FitsItem items
 items_fit (ends e) = tt
-items_fit (path {attributes = a} {item = item} e f g h) = (path_fits a item g, items_fit h)
+items_fit (path {inherited = inherited} {own = own} {item = item} e f g h) = (path_fits own inherited item g, items_fit h)
+items_fit (text {item = item} e f g h i j) = (label_fits i.numbers i.fill.rgb i.text item i.fits i.is, items_fit j)
+items_fit (group {inner = inner} {items = items} e f g h i j k) = all_fit inner items (items_fit i) (items_fit k)
 
 -- ---- the frame
 

@@ -1,22 +1,12 @@
 -- No bytes stand for two things.
 use Rattle.std.proofs.Common.{◌≡◌, ℕ, Bool, ◌&&◌, true, false, List, [], ◌∷◌, ◌++◌, Option, Some, refl, sym, ap, subst, ◌∙◌, arith, inl, inr}
-use Rattle.std.specs.Prelude.{ℤ, neg_ℤ, ◌+ℤ◌, codes}
+use Rattle.std.specs.Prelude.{ℤ}
 use Rattle.std.specs.List.{list_all}
 use Rattle.std.proofs.lemmas.Bool.Decides.{nat_tests}
 use Rattle.std.proofs.lemmas.Bool.{false≢true}
 use Rattle.tk_item.specs.declared.Seg.{Seg}
-use Rattle.std.proofs.lemmas.List.{append_cancel_left}
-use Rattle.tk_item.specs.declared.Item.{Item}
-use Rattle.tk_item.specs.declared.Item.TheVariants.{Path}
-use Rattle.tk_item.specs.declared.Drawing.{Drawing}
-use Rattle.tk_item.specs.declared.Frame.{Frame}
-use Rattle.tk_item.specs.declared.Fill.{Fill}
-use Rattle.tk_item.specs.declared.Stroke.{Stroke}
-use Rattle.tk_svg.specs.Document.{IsPathElement, Content, IsSvg, IsDocument}
-use Rattle.tk_svg.specs.Document as doc
-use Rattle.tk_svg.specs.Paint.{fill_of, stroke_of}
 use Rattle.tk_svg.specs.Scan.{EndsTag, IsName, Attribute, Attributes, none, one, is_name_byte, is_value_byte, after_blanks, after_separator}
-use Rattle.tk_svg.specs.Scan.{after_comma, first_numbers_at, numbers_at, numbers_of, scaled_of}
+use Rattle.tk_svg.specs.Scan.{after_comma, first_numbers_at, numbers_at}
 use Rattle.tk_svg.specs.PathData.{Letter, path_letter, arity, repeated, PathCommand, PathCommands, ends, named, again, begins_number, command_pieces}
 use Rattle.tk_svg.specs.PathData.{IsPathData, LineTo, MoveTo}
 
@@ -29,17 +19,17 @@ first_same x y e = ap (λ p. p.0) e
 pub second_same : {A B : Type 0} (x y : A × B) → x ≡ y → x.1 ≡ y.1
 second_same x y e = ap (λ p. p.1) e
 
-head_same : {A : Type 0} (xs : List A) (x y : A) (r s : List A) → xs ≡ x ∷ r → xs ≡ y ∷ s → x ≡ y
+pub head_same : {A : Type 0} (xs : List A) (x y : A) (r s : List A) → xs ≡ x ∷ r → xs ≡ y ∷ s → x ≡ y
 head_same xs x y r s e f = cc
 
-tail_same : {A : Type 0} (xs : List A) (x y : A) (r s : List A) → xs ≡ x ∷ r → xs ≡ y ∷ s → r ≡ s
+pub tail_same : {A : Type 0} (xs : List A) (x y : A) (r s : List A) → xs ≡ x ∷ r → xs ≡ y ∷ s → r ≡ s
 tail_same xs x y r s e f = cc
 
 pub and_true : (a b : Bool) → (a && b) ≡ true → (a ≡ true) × (b ≡ true)
 and_true true b e = (refl, e)
 and_true false b e = absurd (false≢true e)
 
-same_cells : {A : Type 0} {x y : A} {xs ys : List A} → x ≡ y → xs ≡ ys → x ∷ xs ≡ y ∷ ys
+pub same_cells : {A : Type 0} {x y : A} {xs ys : List A} → x ≡ y → xs ≡ ys → x ∷ xs ≡ y ∷ ys
 same_cells e f = cc
 
 same_pairs : {A B : Type 0} {x y : A} {u v : B} → x ≡ y → u ≡ v → ◌≡◌ {A = A × B} (x, u) (y, v)
@@ -150,77 +140,3 @@ attributes_same {bytes = bytes} (one {name = name} {value = value} {more = more}
     let here = attribute_same (after_blanks bytes) name value more name' value' more' f f' is is' v v' in
     let then = attributes_same w (subst (λ (m : List ℕ). Attributes m others' s) (sym here.2) w') in
     (same_cells (same_pairs here.0 here.1) then.0, then.1)
-
--- ---- paths
-
-path_item_same : (a : List Attribute) (i j : Item) → IsPathElement a i → IsPathElement a j → i ≡ j
-path_item_same a i j p q =
-    let texts = some_same _ p.path q.path p.has_path q.has_path in
-    let segs = path_same p.path p.segs q.segs p.segs_are (subst (λ (t : List ℕ). IsPathData t q.segs) (sym texts) q.segs_are) in
-    let fills = some_same (fill_of a) p.fill q.fill p.fill_is q.fill_is in
-    let strokes = some_same (stroke_of a) p.stroke q.stroke p.stroke_is q.stroke_is in
-    p.is ∙ item_same segs fills strokes ∙ sym q.is
-  where
-    item_same : {s t : List Seg} {f g : Option Fill} {u v : Option Stroke} → s ≡ t → f ≡ g → u ≡ v → Path s f u ≡ Path t g v
-    item_same x y z = cc
-
--- an end tag is no path
-end_no_path : (all rest tag : List ℕ) → all ≡ 60 ∷ 47 ∷ rest → all ≡ codes "<path" ++ tag → ⊥
-end_no_path all rest tag e f =
-    let tails = tail_same all 60 60 (47 ∷ rest) (112 ∷ 97 ∷ 116 ∷ 104 ∷ tag) e f in
-    cc
-
-ends_same : (all r s : List ℕ) → all ≡ 60 ∷ 47 ∷ r → all ≡ 60 ∷ 47 ∷ s → r ≡ s
-ends_same all r s e f = cc
-
--- the path at the front is one, and so is what is left
-path_step : (all tag tag' more more' : List ℕ) (a a' : List Attribute) (x y : Item) → all ≡ codes "<path" ++ tag → all ≡ codes "<path" ++ tag'
-    → Attributes tag a (47 ∷ 62 ∷ more) → Attributes tag' a' (47 ∷ 62 ∷ more') → IsPathElement a x → IsPathElement a' y → (x ≡ y) × (more' ≡ more)
-path_step all tag tag' more more' a a' x y f f' g g' h h' =
-    let tags : tag ≡ tag' = append_cancel_left (codes "<path") tag tag' (sym f ∙ f') in
-    let both = attributes_same g (subst (λ (t : List ℕ). Attributes t a' (47 ∷ 62 ∷ more')) (sym tags) g') in
-    let mores : more ≡ more' = tail_same _ 62 62 _ _ refl (sym (tail_same _ 47 47 _ _ refl (sym both.1))) in
-    (path_item_same a x y h (subst (λ (w : List Attribute). IsPathElement w y) (sym both.0) h'), sym mores)
-
-pub content_same : {bytes : List ℕ} {a b : List Item} {r s : List ℕ} → Content bytes a r → Content bytes b s → (a ≡ b) × (r ≡ s)
-content_same {bytes = bytes} (doc.ends {rest = r} e) (doc.ends {rest = s} f) = (refl, ends_same (after_blanks bytes) r s e f)
-content_same {bytes = bytes} (doc.ends {rest = r} e) (doc.path {tag = tag} f g h i) = absurd (end_no_path (after_blanks bytes) r tag e f)
-content_same {bytes = bytes} (doc.path {tag = tag} f g h i) (doc.ends {rest = r} e) = absurd (end_no_path (after_blanks bytes) r tag e f)
-content_same {bytes = bytes} (doc.path {tag = tag} {more = more} {attributes = a} {item = x} f g h i) (doc.path {tag = tag'} {more = more'} {rest = s}
-    {attributes = a'} {item = y} {items = items'} f' g' h' i') =
-    let here = path_step (after_blanks bytes) tag tag' more more' a a' x y f f' g g' h h' in
-    let then = content_same i (subst (λ (m : List ℕ). Content m items' s) here.1 i') in
-    (same_cells here.0 then.0, then.1)
-
--- a view box is one frame
-box_same : {x y w h x' y' w' h' : ℤ} → ◌≡◌ {A = List ℤ} (x ∷ y ∷ w ∷ h ∷ []) (x' ∷ y' ∷ w' ∷ h' ∷ [])
-    → ◌≡◌ {A = Frame} (record { left = x; bottom = neg_ℤ (y +ℤ h); right = x +ℤ w; top = neg_ℤ y }) (record {
-      left = x';
-      bottom = neg_ℤ (y' +ℤ h');
-      right = x' +ℤ w';
-      top = neg_ℤ y';
-    })
-box_same e = cc
-
-svg_same : (attributes : List Attribute) (a b : Drawing) → IsSvg attributes a → IsSvg attributes b
-    → (a.frame ≡ b.frame) × (a.family ≡ b.family) × (a.size ≡ b.size)
-svg_same attributes a b p q =
-    let box_texts = some_same _ p.box_text q.box_text p.has_box q.has_box in
-    let boxes = some_same _ (p.x ∷ p.y ∷ p.w ∷ p.h ∷ []) (q.x ∷ q.y ∷ q.w ∷ q.h ∷ []) p.box_is (ap (numbers_of 4) box_texts ∙ q.box_is) in
-    let families = some_same _ a.family b.family p.has_family q.has_family in
-    let size_texts = some_same _ p.size_text q.size_text p.has_size q.has_size in
-    let sizes = some_same _ a.size b.size p.size_is (ap scaled_of size_texts ∙ q.size_is) in
-    (p.frame_is ∙ box_same boxes ∙ sym q.frame_is, families, sizes)
-
-whole_same : (a b : Drawing) → a.frame ≡ b.frame → a.family ≡ b.family → a.size ≡ b.size → a.items ≡ b.items → a ≡ b
-whole_same a b f g h i = λ k. record { frame = f k; family = g k; size = h k; items = i k }
-
-pub drawing_same : (bytes : List ℕ) (a b : Drawing) → IsDocument bytes a → IsDocument bytes b → a ≡ b
-drawing_same bytes a b p q =
-    let starts : p.start ≡ q.start = append_cancel_left doc.declaration p.start q.start (sym p.declared ∙ q.declared) in
-    let tags : p.tag ≡ q.tag = append_cancel_left (codes "<svg") p.tag q.tag (sym p.opens ∙ ap after_blanks starts ∙ q.opens) in
-    let both = attributes_same p.has (subst (λ (t : List ℕ). Attributes t q.attributes (62 ∷ q.content)) (sym tags) q.has) in
-    let contents : p.content ≡ q.content = tail_same _ 62 62 _ _ refl both.1 in
-    let items = content_same p.items_are (subst (λ (m : List ℕ). Content m b.items q.close) (sym contents) q.items_are) in
-    let parts = svg_same p.attributes a b p.means (subst (λ (w : List Attribute). IsSvg w b) (sym both.0) q.means) in
-    whole_same a b parts.0 parts.1 parts.2 items.0

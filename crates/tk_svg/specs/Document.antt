@@ -1,6 +1,6 @@
 -- What an SVG document stands for.
-use Rattle.std.specs.Prelude.{◌≡◌, ℕ, ◌<◌, Bool, IsTrue, ◌||◌, ◌&&◌, ◌==◌, nat_le, if◌then◌else◌, List, [], ◌∷◌, ◌++◌}
-use Rattle.std.specs.Prelude.{length, Option, Some, None, codes, ℤ, pos, neg_ℤ, ◌+ℤ◌, ◌*ℤ◌, ◌≤ℤ◌, int_div, bytes_eq}
+use Rattle.std.specs.Prelude.{◌≡◌, ℕ, suc, ◌<◌, Bool, IsTrue, not, ◌||◌, ◌&&◌, ◌==◌, nat_le, if◌then◌else◌, List, [], ◌∷◌, ◌++◌}
+use Rattle.std.specs.Prelude.{length, Option, Some, None, is_some, codes, ℤ, pos, neg_ℤ, ◌+ℤ◌, ◌*ℤ◌, ◌≤ℤ◌, int_div, bytes_eq}
 use Rattle.std.specs.Prelude.{chars, IsUtf8}
 use Rattle.std.specs.List.{list_all}
 use Rattle.tk_item.specs.declared.Fill.{Fill}
@@ -15,35 +15,96 @@ use Rattle.tk_characters.specs.Options.{◌and_then◌}
 use Rattle.tk_svg.specs.Scan.{is_xml_char, after_blanks, number_at, numbers_of, scaled_of, Attribute, Attributes}
 use Rattle.tk_svg.specs.Scan.{attribute, are_distinct, are_among}
 use Rattle.tk_svg.specs.PathData.{IsPathData}
+use Rattle.tk_svg.specs.Labels.{FitsText, Spells, IsPlaced, label_of}
 use Rattle.tk_svg.specs.Paint.{paint_names, fill_of, stroke_of}
 
--- ---- paths
+-- ---- elements
+
+-- An attribute is the element's own, else that of the nearest group that has it, else it has its initial value (SVG 1.1,
+-- section 6.12, Property inheritance). So what an element inherits is the attributes of the groups round it, the nearest
+-- group's first, and the first of a name in `own ++ inherited` holds.
 
 -- these are the attributes of a path for the item (SVG 1.1, section 8.2, The `path` element)
-pub record IsPathElement (attributes : List Attribute) (item : Item) : Type 0 where
+pub record IsPathElement (own inherited : List Attribute) (item : Item) : Type 0 where
   pub path : List ℕ
   pub segs : List Seg
   pub fill : Option Fill
   pub stroke : Option Stroke
-  pub known : IsTrue (are_among (codes "d" ∷ paint_names) attributes)
-  pub distinct : IsTrue (are_distinct attributes)
-  pub has_path : attribute (codes "d") attributes ≡ Some path
+  pub known : IsTrue (are_among (codes "d" ∷ paint_names) own)
+  pub distinct : IsTrue (are_distinct own)
+  pub has_path : attribute (codes "d") own ≡ Some path
   pub segs_are : IsPathData path segs
-  pub fill_is : fill_of attributes ≡ Some fill
-  pub stroke_is : stroke_of attributes ≡ Some stroke
+  pub fill_is : fill_of (own ++ inherited) ≡ Some fill
+  pub stroke_is : stroke_of (own ++ inherited) ≡ Some stroke
   pub is : item ≡ Path segs fill stroke
 
--- the elements up to an end tag, which are paths with blanks around them, and what stands behind its `</`
-pub data Content : List ℕ → List Item → List ℕ → Type 0 where
-  ends : {bytes rest : List ℕ}
+-- the names of a text's attributes
+abbrev pub text_names : List (List ℕ)
+text_names = codes "x" ∷ codes "y" ∷ codes "transform" ∷ codes "fill" ∷ codes "xml:space" ∷ []
+
+-- these are the attributes and the content of a text for the item: it is filled and not drawn, and its white space
+-- counts (SVG 1.1, sections 10.4, The `text` element, and 10.15, White space handling)
+pub record IsTextElement (own inherited : List Attribute) (content : List ℕ) (item : Item) : Type 0 where
+  pub numbers : List ℤ
+  pub fill : Fill
+  pub text : List ℕ
+  pub known : IsTrue (are_among text_names own)
+  pub distinct : IsTrue (are_distinct own)
+  pub preserved : attribute (codes "xml:space") own ≡ Some (codes "preserve")
+  pub placed : IsPlaced own numbers
+  pub filled : fill_of (own ++ inherited) ≡ Some (Some fill)
+  pub not_drawn : stroke_of (own ++ inherited) ≡ Some None
+  pub utf8 : IsUtf8 content
+  pub spelled : Spells (chars content) text
+  pub fits : FitsText text
+  pub is : label_of numbers fill.rgb text ≡ Some item
+
+-- these are the attributes of a group: each value is of its attribute's form, also where no element of the group has
+-- that value in the end (SVG 1.1, section 5.2, Grouping: the `g` element)
+pub record IsGroup (own : List Attribute) : Type 0 where
+  pub known : IsTrue (are_among paint_names own)
+  pub distinct : IsTrue (are_distinct own)
+  pub fill : IsTrue (is_some (fill_of own))
+  pub stroke : IsTrue (is_some (stroke_of own))
+
+-- how many groups may stand in one another
+abbrev pub most_groups : ℕ
+most_groups = 64
+
+-- a byte of a text's content, which goes up to the next `<`
+abbrev pub is_content_byte : ℕ → Bool
+is_content_byte c = not (c == less)
+
+-- the elements up to an end tag, with blanks around them, and what stands behind its `</`. They stand in `depth` groups,
+-- and `inherited` are the attributes of these
+pub data Content : ℕ → List Attribute → List ℕ → List Item → List ℕ → Type 0 where
+  ends : {depth : ℕ} {inherited : List Attribute} {bytes rest : List ℕ}
       → after_blanks bytes ≡ less ∷ slash ∷ rest
-      → Content bytes [] rest
-  path : {bytes tag more rest : List ℕ} {attributes : List Attribute} {item : Item} {items : List Item}
+      → Content depth inherited bytes [] rest
+  path : {depth : ℕ} {inherited own : List Attribute} {bytes tag more rest : List ℕ} {item : Item} {items : List Item}
       → after_blanks bytes ≡ codes "<path" ++ tag
-      → Attributes tag attributes (slash ∷ greater ∷ more)
-      → IsPathElement attributes item
-      → Content more items rest
-      → Content bytes (item ∷ items) rest
+      → Attributes tag own (slash ∷ greater ∷ more)
+      → IsPathElement own inherited item
+      → Content depth inherited more items rest
+      → Content depth inherited bytes (item ∷ items) rest
+  text : {depth : ℕ} {inherited own : List Attribute} {bytes tag inside content more rest : List ℕ} {item : Item}
+      {items : List Item}
+      → after_blanks bytes ≡ codes "<text" ++ tag
+      → Attributes tag own (greater ∷ inside)
+      → inside ≡ content ++ (codes "</text>" ++ more)
+      → IsTrue (list_all is_content_byte content)
+      → IsTextElement own inherited content item
+      → Content depth inherited more items rest
+      → Content depth inherited bytes (item ∷ items) rest
+  group : {depth : ℕ} {inherited own : List Attribute} {bytes tag inside behind more rest : List ℕ} {inner items : List Item}
+      → after_blanks bytes ≡ codes "<g" ++ tag
+      → Attributes tag own (greater ∷ inside)
+      → IsGroup own
+      → depth < most_groups
+      → Content (suc depth) (own ++ inherited) inside inner behind
+      → behind ≡ codes "g>" ++ more
+      → Content depth inherited more items rest
+      → Content depth inherited bytes (inner ++ items) rest
 
 -- ---- the outermost element
 
@@ -126,7 +187,7 @@ pub record IsDocument (bytes : List ℕ) (d : Drawing) : Type 0 where
   pub declared : bytes ≡ declaration ++ start
   pub opens : after_blanks start ≡ codes "<svg" ++ tag
   pub has : Attributes tag attributes (greater ∷ content)
-  pub items_are : Content content d.items close
+  pub items_are : Content 0 [] content d.items close
   pub closes : close ≡ codes "svg>" ++ last
   pub nothing_more : after_blanks last ≡ []
   pub means : IsSvg attributes d

@@ -1,15 +1,14 @@
 -- Which drawings an SVG document can stand for.
-use Rattle.std.specs.Prelude.{ℕ, ◌<◌, ◌≤◌, Bool, IsTrue, not, ◌||◌, ◌&&◌, ◌==◌, List, ◌∷◌, length, Option, Some, None}
+use Rattle.std.specs.Prelude.{◌≤◌, List, ◌∷◌, Option, Some, None}
 use Rattle.std.specs.Prelude.{ℤ, pos, ◌≤ℤ◌, ◌-ℤ◌, unsigned_abs}
-use Rattle.std.specs.List.{list_all, AllByRecursion}
+use Rattle.std.specs.List.{AllByRecursion}
 use Rattle.tk_item.specs.declared.Seg.{Seg}
 use Rattle.tk_item.specs.declared.Seg.TheVariants.{Move}
 use Rattle.tk_item.specs.declared.Stroke.{Stroke}
 use Rattle.tk_item.specs.declared.Item.{Item}
 use Rattle.tk_item.specs.declared.Item.TheVariants.{Path, Label}
 use Rattle.tk_item.specs.declared.Drawing.{Drawing}
-use Rattle.tk_characters.specs.Characters.{tab, line_feed, carriage_return}
-use Rattle.tk_svg.specs.Scan.{is_xml_char}
+use Rattle.tk_svg.specs.Labels.{FitsText}
 use Rattle.tk_svg.specs.Document.{IsFamily}
 
 -- a path has pieces, and begins with a move
@@ -26,15 +25,6 @@ IsPath (Label label) = ⊥
 abbrev pub FitsStroke : Option Stroke → Type 0
 FitsStroke None = Unit {0}
 FitsStroke (Some stroke) = (pos 0 ≤ℤ stroke.width) × (pos 65536 ≤ℤ stroke.miter)
-
--- a character of a label: one that XML allows, but tab, line feed and carriage return
-abbrev pub is_label_char : ℕ → Bool
-is_label_char c = is_xml_char c && not (c == tab || (c == line_feed || c == carriage_return))
-
--- a label's text is not empty
-pub record FitsText (text : List ℕ) : Type 0 where
-  pub some : 0 < length text
-  pub each : IsTrue (list_all is_label_char text)
 
 -- a path or a label that fits
 abbrev pub FitsItem : Item → Type 0

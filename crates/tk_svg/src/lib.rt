@@ -1,8 +1,9 @@
 //! What the bytes of an SVG document mean: definitions, which the writer and the reader share, and
 //! the laws that no bytes mean two things, and that what they mean fits the form.
 //!
-//! The form is a part of SVG 1.1. A document is an `svg` element with seven attributes, and `path`
-//! elements with the commands `M`, `L`, `C` and `Z` and with the attributes of fill and stroke.
+//! The form is a part of SVG 1.1. A document is an `svg` element with seven attributes. In it stand `path`
+//! elements with the commands `M`, `L`, `C` and `Z`, `text` elements, and groups of these. The attributes of
+//! fill and stroke that a group has hold in it, where no nearer element has its own.
 #![tactic(auto)]
 
 ghost use Rattle.std.specs.Prelude.{◌≡◌, ℕ, List};

@@ -5,6 +5,7 @@ use Rattle.std.specs.Prelude.{ℤ, pos, negsuc, neg_ℤ, ◌+ℤ◌, ◌*ℤ◌,
 use Rattle.std.specs.List.{list_all, list_any, AllByRecursion}
 use Rattle.std.proofs.lemmas.Bool.Decides.{nat_tests}
 use Rattle.std.proofs.lemmas.Int.{ints, unsigned_abs-mul}
+use Rattle.std.proofs.lemmas.List.{append-nil}
 use Rattle.std.proofs.lemmas.List.Sums.{AllPass-from_list_all}
 use Rattle.std.proofs.lemmas.Str.{IsUtf8-from_ascii, chars-IsAscii}
 use Rattle.std.proofs.lemmas.Str.Ascii.{IsAscii-from_all}
@@ -19,19 +20,20 @@ use Rattle.tk_item.specs.declared.Item.TheVariants.{Path, Label}
 use Rattle.tk_item.specs.declared.Drawing.{Drawing}
 use Rattle.tk_svg.specs.Scan.{is_xml_char, is_xml_blank, is_name_byte, is_value_byte, after_blanks, Attribute, attribute, Attributes, none, one}
 use Rattle.tk_svg.specs.Scan.{EndsTag, IsName, are_among, are_distinct}
-use Rattle.tk_svg.specs.Paint.{paint_names}
+use Rattle.tk_svg.specs.Paint.{paint_names, fill_of, stroke_of}
 use Rattle.tk_svg.specs.Document.{IsPathElement, Content, IsSvg, IsDocument, IsFamily, is_family_char, size_of, points_value, declaration}
 use Rattle.tk_svg.specs.Document as doc
 use Rattle.tk_svg.specs.Fitting.{Fits, FitsItem, IsPath, FitsBox}
 use Rattle.tk_svg.proofs.Numbers.{number_back}
 use Rattle.tk_svg.proofs.Unique.{and_true}
-use Rattle.tk_svgwrite.specs.Plain.{attribute_text, attributes_text, Setting, differing, data_text, fill_settings, stroke_settings, path_attributes}
+use Rattle.tk_svgwrite.specs.Plain.{fill_attributes, stroke_attributes, path_attributes}
+use Rattle.tk_svgwrite.specs.Values.{attribute_text, attributes_text, OptionalAttribute, differing, data_text}
 use Rattle.tk_svgwrite.specs.Plain.{item_text, frame_width, frame_height, points_text, box_text, svg_attributes, svg_text, document_text}
 use Rattle.tk_svgwrite.specs.Ranges.{FillInRange, StrokeInRange, ItemInRange}
 use Rattle.tk_svgwrite.proofs.Numbers.{is_plain, all_both, text_plain, numbers_plain, list_back}
 use Rattle.tk_svgwrite.proofs.PathData.{unsigned_abs-neg, neg-neg, scaled_fits, data_means, data_plain}
 use Rattle.tk_svgwrite.proofs.Paint.{rgb_plain, rule_plain, cap_plain, join_plain, dash_plain, scaled_back, fill_means, stroke_means}
-use Rattle.tk_svgwrite.proofs.Settings.{IsWritten, has_name, are_apart, absent_name_has_no_value, distinct_back, among_back, written_back}
+use Rattle.tk_svgwrite.proofs.Optionals.{IsWritten, has_name, are_apart, absent_name_has_no_value, distinct_back, among_back, written_back}
 
 -- ---- attributes
 
@@ -89,19 +91,19 @@ attribute_is_written : (name value : List ℕ) → 0 < length name → list_all 
     → IsWritten (name, value)
 attribute_is_written name value some each plain = record { name = record { some = some; each = each }; value = plain }
 
-abbrev SettingsWritten : List Setting → Type 0
-SettingsWritten settings = AllByRecursion (λ s. IsWritten (s.name, s.value)) settings
+abbrev AreWritten : List OptionalAttribute → Type 0
+AreWritten optionals = AllByRecursion (λ s. IsWritten (s.name, s.value)) optionals
 
-both_written : (a b : List Setting) → SettingsWritten a → SettingsWritten b → SettingsWritten (a ++ b)
+both_written : (a b : List OptionalAttribute) → AreWritten a → AreWritten b → AreWritten (a ++ b)
 both_written [] b h i = i
 both_written (s ∷ a) b h i = (h.0, both_written a b h.1 i)
 
-fill_written : (fill : Option Fill) → FillInRange fill → SettingsWritten (fill_settings fill)
+fill_written : (fill : Option Fill) → FillInRange fill → AreWritten (fill_attributes fill)
 fill_written None h = (attribute_is_written _ _ (lit< tt) refl refl, tt)
 fill_written (Some f) h =
     (attribute_is_written _ _ (lit< tt) refl (rgb_plain f.rgb h), (attribute_is_written _ _ (lit< tt) refl (rule_plain f.rule), tt))
 
-stroke_written : (stroke : Option Stroke) → StrokeInRange stroke → SettingsWritten (stroke_settings stroke)
+stroke_written : (stroke : Option Stroke) → StrokeInRange stroke → AreWritten (stroke_attributes stroke)
 stroke_written None h = tt
 stroke_written (Some s) h = (
   attribute_is_written _ _ (lit< tt) refl (rgb_plain s.rgb h.rgb),
@@ -127,34 +129,34 @@ path_written : (segs : List Seg) (fill : Option Fill) (stroke : Option Stroke) �
     → AllByRecursion IsWritten (path_attributes segs fill stroke)
 path_written segs fill stroke h = (
   attribute_is_written _ _ (lit< tt) refl (data_plain segs h.0),
-  written_back (fill_settings fill ++ stroke_settings stroke)
-      (both_written (fill_settings fill) (stroke_settings stroke) (fill_written fill h.1) (stroke_written stroke h.2)),
+  written_back (fill_attributes fill ++ stroke_attributes stroke)
+      (both_written (fill_attributes fill) (stroke_attributes stroke) (fill_written fill h.1) (stroke_written stroke h.2)),
 )
 
--- which names the settings have
-record Named (settings : List Setting) : Type 0 where
-  no_data : attribute (codes "d") (differing settings) ≡ None
-  apart : are_distinct (differing settings) ≡ true
-  among : are_among (codes "d" ∷ paint_names) (differing settings) ≡ true
+-- which names the attributes have
+record Named (optionals : List OptionalAttribute) : Type 0 where
+  no_data : attribute (codes "d") (differing optionals) ≡ None
+  apart : are_distinct (differing optionals) ≡ true
+  among : are_among (codes "d" ∷ paint_names) (differing optionals) ≡ true
 
-named_by : (settings : List Setting) → has_name (codes "d") settings ≡ false → are_apart settings ≡ true
-    → list_all (λ s. list_any (bytes_eq s.name) (codes "d" ∷ paint_names)) settings ≡ true → Named settings
-named_by settings d a n = record {
-  no_data = absent_name_has_no_value (codes "d") settings d;
-  apart = distinct_back settings a;
-  among = among_back (codes "d" ∷ paint_names) settings n;
+named_by : (optionals : List OptionalAttribute) → has_name (codes "d") optionals ≡ false → are_apart optionals ≡ true
+    → list_all (λ s. list_any (bytes_eq s.name) (codes "d" ∷ paint_names)) optionals ≡ true → Named optionals
+named_by optionals d a n = record {
+  no_data = absent_name_has_no_value (codes "d") optionals d;
+  apart = distinct_back optionals a;
+  among = among_back (codes "d" ∷ paint_names) optionals n;
 }
 
-settings_named : (fill : Option Fill) (stroke : Option Stroke) → Named (fill_settings fill ++ stroke_settings stroke)
-settings_named None None = named_by _ refl refl refl
-settings_named None (Some s) = named_by _ refl refl refl
-settings_named (Some f) None = named_by _ refl refl refl
-settings_named (Some f) (Some s) = named_by _ refl refl refl
+optionals_named : (fill : Option Fill) (stroke : Option Stroke) → Named (fill_attributes fill ++ stroke_attributes stroke)
+optionals_named None None = named_by _ refl refl refl
+optionals_named None (Some s) = named_by _ refl refl refl
+optionals_named (Some f) None = named_by _ refl refl refl
+optionals_named (Some f) (Some s) = named_by _ refl refl refl
 
 path_is : (segs : List Seg) (fill : Option Fill) (stroke : Option Stroke) → ItemInRange (Path segs fill stroke) → FitsItem (Path segs fill stroke)
-    → IsPathElement (path_attributes segs fill stroke) (Path segs fill stroke)
+    → IsPathElement (path_attributes segs fill stroke) [] (Path segs fill stroke)
 path_is segs fill stroke h f =
-    let named = settings_named fill stroke in
+    let named = optionals_named fill stroke in
     record {
       path = data_text segs;
       segs = segs;
@@ -164,8 +166,8 @@ path_is segs fill stroke h f =
       distinct = rw (named.no_data, named.apart) refl;
       has_path = refl;
       segs_are = data_means segs f.0 h.0;
-      fill_is = fill_means (data_text segs) fill stroke h.1;
-      stroke_is = stroke_means (data_text segs) fill stroke h.2 f.1;
+      fill_is = ap fill_of (append-nil (path_attributes segs fill stroke)) ∙ fill_means (data_text segs) fill stroke h.1;
+      stroke_is = ap stroke_of (append-nil (path_attributes segs fill stroke)) ∙ stroke_means (data_text segs) fill stroke h.2 f.1;
       is = refl;
     }
 
@@ -175,7 +177,7 @@ tag_parts : (attributes items close : List ℕ) → ((attributes ++ codes "/>\n"
 tag_parts attributes items close = simp append_assoc
 
 pub items_mean : (items : List Item) → AllByRecursion FitsItem items → AllByRecursion ItemInRange items → AllByRecursion IsPath items
-    → Content (10 ∷ (flat_map item_text items ++ codes "</svg>\n")) items (codes "svg>\n")
+    → Content 0 [] (10 ∷ (flat_map item_text items ++ codes "</svg>\n")) items (codes "svg>\n")
 unfolding item_text
 items_mean [] f h p = doc.ends refl
 items_mean (Path segs fill stroke ∷ items) f h p =

@@ -2,6 +2,6 @@ pub mod Document
 pub mod Numbers
 pub mod Paint
 pub mod PathData
-pub mod Settings
+pub mod Optionals
 pub mod Strokes
 pub mod Writing

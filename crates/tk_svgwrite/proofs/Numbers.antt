@@ -15,7 +15,7 @@ use Rattle.tk_svg.specs.Scan.{lone_number, numbers_of}
 use Rattle.tk_svg.specs.Fitting.{FitsBox}
 use Rattle.tk_svg.proofs.Numbers.{digit_is, EndsNumber, number_back}
 use Rattle.tk_num.proofs.Fixed.{fixed_all}
-use Rattle.tk_svgwrite.specs.Plain.{numbers_text}
+use Rattle.tk_svgwrite.specs.Values.{numbers_text}
 
 -- ---- what a text is made of
 

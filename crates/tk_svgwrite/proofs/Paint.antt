@@ -24,12 +24,14 @@ use Rattle.tk_svg.specs.Paint.{value_or_initial, hex_digit, hex_byte, rgb_of, pa
 use Rattle.tk_svg.specs.Paint.{dashes_of, fill_of, stroke_of}
 use Rattle.tk_svg.specs.Fitting.{FitsBox, FitsStroke}
 use Rattle.tk_svg.proofs.Unique.{and_true}
-use Rattle.tk_svgwrite.specs.Plain.{numbers_text, hex_glyph, hex_text, rgb_text, rule_text, cap_text, join_text, dash_text, fill_settings}
-use Rattle.tk_svgwrite.specs.Plain.{stroke_settings, differing}
+use Rattle.tk_svgwrite.specs.Plain.{fill_attributes}
+use Rattle.tk_svgwrite.specs.Values.{numbers_text, hex_glyph, hex_text, rgb_text, rule_text, cap_text, join_text, dash_text}
+use Rattle.tk_svgwrite.specs.Plain.{stroke_attributes}
+use Rattle.tk_svgwrite.specs.Values.{differing}
 use Rattle.tk_svgwrite.specs.Ranges.{RgbInRange, FillInRange, StrokeInRange}
 use Rattle.tk_svgwrite.proofs.Numbers.{is_plain, numbers_plain, number_of_back, list_back}
 use Rattle.tk_svgwrite.proofs.PathData.{scaled_fits}
-use Rattle.tk_svgwrite.proofs.Settings.{given_back}
+use Rattle.tk_svgwrite.proofs.Optionals.{given_back}
 
 -- ---- colours
 
@@ -172,21 +174,21 @@ unfolding paint_of
 none_paint = refl
 
 pub fill_means : (data_text : List ℕ) (fill : Option Fill) (stroke : Option Stroke) → FillInRange fill
-    → fill_of ((codes "d", data_text) ∷ differing (fill_settings fill ++ stroke_settings stroke)) ≡ Some fill
+    → fill_of ((codes "d", data_text) ∷ differing (fill_attributes fill ++ stroke_attributes stroke)) ≡ Some fill
 fill_means data_text None None h = fill_from _ (codes "none") (codes "nonzero") None NonZero (given_back (codes "fill") (codes "#000000")
-    (fill_settings None ++ stroke_settings None) refl) (given_back (codes "fill-rule") (codes "nonzero") (fill_settings None ++ stroke_settings None)
+    (fill_attributes None ++ stroke_attributes None) refl) (given_back (codes "fill-rule") (codes "nonzero") (fill_attributes None ++ stroke_attributes None)
     refl) none_paint (rule_back NonZero)
 fill_means data_text None (Some s) h =
-    fill_from _ (codes "none") (codes "nonzero") None NonZero (given_back (codes "fill") (codes "#000000") (fill_settings None ++ stroke_settings
-    (Some s)) refl) (given_back (codes "fill-rule") (codes "nonzero") (fill_settings None ++ stroke_settings (Some s)) refl) none_paint
+    fill_from _ (codes "none") (codes "nonzero") None NonZero (given_back (codes "fill") (codes "#000000") (fill_attributes None ++ stroke_attributes
+    (Some s)) refl) (given_back (codes "fill-rule") (codes "nonzero") (fill_attributes None ++ stroke_attributes (Some s)) refl) none_paint
     (rule_back NonZero)
 fill_means data_text (Some f) None h =
-    fill_from _ (rgb_text f.rgb) (rule_text f.rule) (Some f.rgb) f.rule (given_back (codes "fill") (codes "#000000") (fill_settings (Some f)
-    ++ stroke_settings None) refl) (given_back (codes "fill-rule") (codes "nonzero") (fill_settings (Some f) ++ stroke_settings None) refl)
+    fill_from _ (rgb_text f.rgb) (rule_text f.rule) (Some f.rgb) f.rule (given_back (codes "fill") (codes "#000000") (fill_attributes (Some f)
+    ++ stroke_attributes None) refl) (given_back (codes "fill-rule") (codes "nonzero") (fill_attributes (Some f) ++ stroke_attributes None) refl)
     (paint_back f.rgb h) (rule_back f.rule)
 fill_means data_text (Some f) (Some s) h =
-    fill_from _ (rgb_text f.rgb) (rule_text f.rule) (Some f.rgb) f.rule (given_back (codes "fill") (codes "#000000") (fill_settings (Some f)
-    ++ stroke_settings (Some s)) refl) (given_back (codes "fill-rule") (codes "nonzero") (fill_settings (Some f) ++ stroke_settings (Some s)) refl)
+    fill_from _ (rgb_text f.rgb) (rule_text f.rule) (Some f.rgb) f.rule (given_back (codes "fill") (codes "#000000") (fill_attributes (Some f)
+    ++ stroke_attributes (Some s)) refl) (given_back (codes "fill-rule") (codes "nonzero") (fill_attributes (Some f) ++ stroke_attributes (Some s)) refl)
     (paint_back f.rgb h) (rule_back f.rule)
 
 -- ---- a stroke
@@ -211,47 +213,47 @@ stroke_from p w c j m ds f t e1 e2 e3 e4 e5 e6 e7 =
     rw (t.paint_given, e1, t.width_given, e2, t.cap_given, e3, t.join_given, e4, t.miter_given, e5, t.dash_given, e6, t.phase_given, e7) refl
 
 texts_of : (data_text : List ℕ) (fill : Option Fill) (s : Stroke)
-    → StrokeTexts ((codes "d", data_text) ∷ differing (fill_settings fill ++ stroke_settings (Some s))) (rgb_text s.rgb) (text_of s.width)
+    → StrokeTexts ((codes "d", data_text) ∷ differing (fill_attributes fill ++ stroke_attributes (Some s))) (rgb_text s.rgb) (text_of s.width)
     (cap_text s.cap) (join_text s.join) (text_of s.miter) (dash_text s.dash) (text_of s.phase)
 texts_of data_text None s = record {
-  paint_given = given_back (codes "stroke") (codes "none") (fill_settings None ++ stroke_settings (Some s)) refl;
-  width_given = given_back (codes "stroke-width") (codes "1") (fill_settings None ++ stroke_settings (Some s)) refl;
-  cap_given = given_back (codes "stroke-linecap") (codes "butt") (fill_settings None ++ stroke_settings (Some s)) refl;
-  join_given = given_back (codes "stroke-linejoin") (codes "miter") (fill_settings None ++ stroke_settings (Some s)) refl;
-  miter_given = given_back (codes "stroke-miterlimit") (codes "4") (fill_settings None ++ stroke_settings (Some s)) refl;
-  dash_given = given_back (codes "stroke-dasharray") (codes "none") (fill_settings None ++ stroke_settings (Some s)) refl;
-  phase_given = given_back (codes "stroke-dashoffset") (codes "0") (fill_settings None ++ stroke_settings (Some s)) refl;
+  paint_given = given_back (codes "stroke") (codes "none") (fill_attributes None ++ stroke_attributes (Some s)) refl;
+  width_given = given_back (codes "stroke-width") (codes "1") (fill_attributes None ++ stroke_attributes (Some s)) refl;
+  cap_given = given_back (codes "stroke-linecap") (codes "butt") (fill_attributes None ++ stroke_attributes (Some s)) refl;
+  join_given = given_back (codes "stroke-linejoin") (codes "miter") (fill_attributes None ++ stroke_attributes (Some s)) refl;
+  miter_given = given_back (codes "stroke-miterlimit") (codes "4") (fill_attributes None ++ stroke_attributes (Some s)) refl;
+  dash_given = given_back (codes "stroke-dasharray") (codes "none") (fill_attributes None ++ stroke_attributes (Some s)) refl;
+  phase_given = given_back (codes "stroke-dashoffset") (codes "0") (fill_attributes None ++ stroke_attributes (Some s)) refl;
 }
 texts_of data_text (Some f) s = record {
-  paint_given = given_back (codes "stroke") (codes "none") (fill_settings (Some f) ++ stroke_settings (Some s)) refl;
-  width_given = given_back (codes "stroke-width") (codes "1") (fill_settings (Some f) ++ stroke_settings (Some s)) refl;
-  cap_given = given_back (codes "stroke-linecap") (codes "butt") (fill_settings (Some f) ++ stroke_settings (Some s)) refl;
-  join_given = given_back (codes "stroke-linejoin") (codes "miter") (fill_settings (Some f) ++ stroke_settings (Some s)) refl;
-  miter_given = given_back (codes "stroke-miterlimit") (codes "4") (fill_settings (Some f) ++ stroke_settings (Some s)) refl;
-  dash_given = given_back (codes "stroke-dasharray") (codes "none") (fill_settings (Some f) ++ stroke_settings (Some s)) refl;
-  phase_given = given_back (codes "stroke-dashoffset") (codes "0") (fill_settings (Some f) ++ stroke_settings (Some s)) refl;
+  paint_given = given_back (codes "stroke") (codes "none") (fill_attributes (Some f) ++ stroke_attributes (Some s)) refl;
+  width_given = given_back (codes "stroke-width") (codes "1") (fill_attributes (Some f) ++ stroke_attributes (Some s)) refl;
+  cap_given = given_back (codes "stroke-linecap") (codes "butt") (fill_attributes (Some f) ++ stroke_attributes (Some s)) refl;
+  join_given = given_back (codes "stroke-linejoin") (codes "miter") (fill_attributes (Some f) ++ stroke_attributes (Some s)) refl;
+  miter_given = given_back (codes "stroke-miterlimit") (codes "4") (fill_attributes (Some f) ++ stroke_attributes (Some s)) refl;
+  dash_given = given_back (codes "stroke-dasharray") (codes "none") (fill_attributes (Some f) ++ stroke_attributes (Some s)) refl;
+  phase_given = given_back (codes "stroke-dashoffset") (codes "0") (fill_attributes (Some f) ++ stroke_attributes (Some s)) refl;
 }
 
 no_texts : (data_text : List ℕ) (fill : Option Fill)
-    → StrokeTexts ((codes "d", data_text) ∷ differing (fill_settings fill ++ [])) (codes "none") (codes "1") (codes "butt") (codes "miter")
+    → StrokeTexts ((codes "d", data_text) ∷ differing (fill_attributes fill ++ [])) (codes "none") (codes "1") (codes "butt") (codes "miter")
     (codes "4") (codes "none") (codes "0")
 no_texts data_text None = record {
-  paint_given = given_back (codes "stroke") (codes "none") (fill_settings None) refl;
-  width_given = given_back (codes "stroke-width") (codes "1") (fill_settings None) refl;
-  cap_given = given_back (codes "stroke-linecap") (codes "butt") (fill_settings None) refl;
-  join_given = given_back (codes "stroke-linejoin") (codes "miter") (fill_settings None) refl;
-  miter_given = given_back (codes "stroke-miterlimit") (codes "4") (fill_settings None) refl;
-  dash_given = given_back (codes "stroke-dasharray") (codes "none") (fill_settings None) refl;
-  phase_given = given_back (codes "stroke-dashoffset") (codes "0") (fill_settings None) refl;
+  paint_given = given_back (codes "stroke") (codes "none") (fill_attributes None) refl;
+  width_given = given_back (codes "stroke-width") (codes "1") (fill_attributes None) refl;
+  cap_given = given_back (codes "stroke-linecap") (codes "butt") (fill_attributes None) refl;
+  join_given = given_back (codes "stroke-linejoin") (codes "miter") (fill_attributes None) refl;
+  miter_given = given_back (codes "stroke-miterlimit") (codes "4") (fill_attributes None) refl;
+  dash_given = given_back (codes "stroke-dasharray") (codes "none") (fill_attributes None) refl;
+  phase_given = given_back (codes "stroke-dashoffset") (codes "0") (fill_attributes None) refl;
 }
 no_texts data_text (Some f) = record {
-  paint_given = given_back (codes "stroke") (codes "none") (fill_settings (Some f)) refl;
-  width_given = given_back (codes "stroke-width") (codes "1") (fill_settings (Some f)) refl;
-  cap_given = given_back (codes "stroke-linecap") (codes "butt") (fill_settings (Some f)) refl;
-  join_given = given_back (codes "stroke-linejoin") (codes "miter") (fill_settings (Some f)) refl;
-  miter_given = given_back (codes "stroke-miterlimit") (codes "4") (fill_settings (Some f)) refl;
-  dash_given = given_back (codes "stroke-dasharray") (codes "none") (fill_settings (Some f)) refl;
-  phase_given = given_back (codes "stroke-dashoffset") (codes "0") (fill_settings (Some f)) refl;
+  paint_given = given_back (codes "stroke") (codes "none") (fill_attributes (Some f)) refl;
+  width_given = given_back (codes "stroke-width") (codes "1") (fill_attributes (Some f)) refl;
+  cap_given = given_back (codes "stroke-linecap") (codes "butt") (fill_attributes (Some f)) refl;
+  join_given = given_back (codes "stroke-linejoin") (codes "miter") (fill_attributes (Some f)) refl;
+  miter_given = given_back (codes "stroke-miterlimit") (codes "4") (fill_attributes (Some f)) refl;
+  dash_given = given_back (codes "stroke-dasharray") (codes "none") (fill_attributes (Some f)) refl;
+  phase_given = given_back (codes "stroke-dashoffset") (codes "0") (fill_attributes (Some f)) refl;
 }
 
 initial_width : length_value (codes "1") ≡ Some (pos 65536)
@@ -271,7 +273,7 @@ unfolding dashes_of
 initial_dash = refl
 
 pub stroke_means : (data_text : List ℕ) (fill : Option Fill) (stroke : Option Stroke) → StrokeInRange stroke → FitsStroke stroke
-    → stroke_of ((codes "d", data_text) ∷ differing (fill_settings fill ++ stroke_settings stroke)) ≡ Some stroke
+    → stroke_of ((codes "d", data_text) ∷ differing (fill_attributes fill ++ stroke_attributes stroke)) ≡ Some stroke
 stroke_means data_text fill None h f =
     stroke_from None (pos 65536) cap.Butt join.Miter (pos 262144) [] (pos 0) (no_texts data_text fill) none_paint initial_width (cap_back cap.Butt)
     (join_back join.Miter) initial_miter initial_dash initial_phase

@@ -12,7 +12,7 @@ use Rattle.tk_svg.specs.PathData.{Letter, PathCommand, PathCommands, ends, named
 use Rattle.tk_svg.specs.PathData.{scaled_point, IsPathData}
 use Rattle.tk_svg.specs.Fitting.{FitsBox, BeginsWithMove}
 use Rattle.tk_svg.proofs.Numbers.{EndsNumber}
-use Rattle.tk_svgwrite.specs.Plain.{numbers_text, numbers_of_point, piece_text, data_text}
+use Rattle.tk_svgwrite.specs.Values.{numbers_text, numbers_of_point, piece_text, data_text}
 use Rattle.tk_svgwrite.specs.Ranges.{PointInRange, PieceInRange}
 use Rattle.tk_svgwrite.proofs.Numbers.{is_plain, all_both, numbers_plain, numbers_back}
 

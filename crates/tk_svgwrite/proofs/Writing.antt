@@ -18,8 +18,9 @@ use Rattle.tk_item.specs.declared.Item.TheVariants.{Path}
 use Rattle.tk_item.specs.declared.Drawing.{Drawing}
 use Rattle.tk_item.specs.declared.Frame.{Frame}
 use Rattle.tk_svg.specs.Document.{declaration}
-use Rattle.tk_svgwrite.specs.Plain.{attribute_text, attributes_text, Setting, setting, differing, numbers_text, rgb_text, rule_text, cap_text}
-use Rattle.tk_svgwrite.specs.Plain.{join_text, dash_text, data_text, fill_settings, stroke_settings, item_text, frame_width, frame_height}
+use Rattle.tk_svgwrite.specs.Values.{attribute_text, attributes_text, OptionalAttribute, optional, differing, numbers_text, rgb_text, rule_text, cap_text}
+use Rattle.tk_svgwrite.specs.Plain.{fill_attributes, stroke_attributes, item_text, frame_width, frame_height}
+use Rattle.tk_svgwrite.specs.Values.{join_text, dash_text, data_text}
 use Rattle.tk_svgwrite.specs.Plain.{points_text, box_text, svg_text, document_text}
 use Rattle.tk_svgwrite.specs.Presentations.{presentation_text}
 use Rattle.tk_svgwrite.proofs.Paint.{all_fit, dash_no_none}
@@ -32,7 +33,7 @@ pub numbers_text-cons : (x : ℤ) (xs : List ℤ) → numbers_text (x ∷ xs) �
 numbers_text-cons x [] = sym (append-nil (text_of x))
 numbers_text-cons x (y ∷ ys) = rw (numbers_text-cons y ys) (append_assoc (text_of x) (codes " ") (text_of y ++ flat_map spaced_text ys))
 
-pub differing-append : (a b : List Setting) → differing (a ++ b) ≡ differing a ++ differing b
+pub differing-append : (a b : List OptionalAttribute) → differing (a ++ b) ≡ differing a ++ differing b
 unfolding differing
 differing-append [] b = refl
 differing-append (s ∷ a) b = by_test (bytes_eq s.value s.initial) (differing-append a b)
@@ -42,19 +43,19 @@ differing-append (s ∷ a) b = by_test (bytes_eq s.value s.initial) (differing-a
     by_test true e = e
     by_test false e = ap (λ (w : List Attribute). (s.name, s.value) ∷ w) e
 
--- what is written of settings
-abbrev pub settings_text : List Setting → List ℕ
-settings_text settings = attributes_text (differing settings)
+-- what is written of them
+abbrev pub optionals_text : List OptionalAttribute → List ℕ
+optionals_text optionals = attributes_text (differing optionals)
 
-pub settings_text-append : (a b : List Setting) → settings_text (a ++ b) ≡ settings_text a ++ settings_text b
-settings_text-append a b = ap attributes_text (differing-append a b) ∙ flat_map-append attribute_text (differing a) (differing b)
+pub optionals_text-append : (a b : List OptionalAttribute) → optionals_text (a ++ b) ≡ optionals_text a ++ optionals_text b
+optionals_text-append a b = ap attributes_text (differing-append a b) ∙ flat_map-append attribute_text (differing a) (differing b)
 
--- one setting more, and one attribute more
-pub setting_step : (done : List Setting) (s : Setting) (before now new : List ℕ) → now ≡ before ++ settings_text done
-    → new ≡ now ++ settings_text (s ∷ []) → new ≡ before ++ settings_text (done ++ s ∷ [])
-setting_step done s before now new so_far more =
-    more ∙ ap (λ (w : List ℕ). w ++ settings_text (s ∷ [])) so_far ∙ append_assoc before (settings_text done) (settings_text (s ∷ []))
-    ∙ ap (λ w. before ++ w) (sym (settings_text-append done (s ∷ [])))
+-- one more that may be left out, and one attribute more
+pub optional_step : (done : List OptionalAttribute) (s : OptionalAttribute) (before now new : List ℕ) → now ≡ before ++ optionals_text done
+    → new ≡ now ++ optionals_text (s ∷ []) → new ≡ before ++ optionals_text (done ++ s ∷ [])
+optional_step done s before now new so_far more =
+    more ∙ ap (λ (w : List ℕ). w ++ optionals_text (s ∷ [])) so_far ∙ append_assoc before (optionals_text done) (optionals_text (s ∷ []))
+    ∙ ap (λ w. before ++ w) (sym (optionals_text-append done (s ∷ [])))
 
 pub attribute_step : (done : List Attribute) (a : Attribute) (before now new : List ℕ) → now ≡ before ++ attributes_text done
     → new ≡ now ++ attribute_text a → new ≡ before ++ attributes_text (done ++ a ∷ [])
@@ -67,26 +68,26 @@ joined_inside before a b c = simp append_assoc
 
 -- ---- dashes
 
-abbrev pub dash_setting : List ℤ → Setting
-dash_setting ds = setting (codes "stroke-dasharray") (codes "none") (dash_text ds)
+abbrev pub dash_attribute : List ℤ → OptionalAttribute
+dash_attribute ds = optional (codes "stroke-dasharray") (codes "none") (dash_text ds)
 
-pub no_dashes : (before : List ℕ) (ds : List ℤ) → length ds ≡ 0 → before ≡ before ++ settings_text (dash_setting ds ∷ [])
+pub no_dashes : (before : List ℕ) (ds : List ℤ) → length ds ≡ 0 → before ≡ before ++ optionals_text (dash_attribute ds ∷ [])
 unfolding differing
 no_dashes before [] e = sym (append-nil before)
 no_dashes before (x ∷ xs) e = absurd (omega arith)
 
 dashes_text : (x : ℤ) (xs : List ℤ) → AllByRecursion IsScaled (x ∷ xs) → length (x ∷ xs) ≤ 16
-    → settings_text (dash_setting (x ∷ xs) ∷ []) ≡ codes " " ++ codes "stroke-dasharray" ++ codes "=\"" ++ numbers_text (x ∷ xs) ++ codes "\""
+    → optionals_text (dash_attribute (x ∷ xs) ∷ []) ≡ codes " " ++ codes "stroke-dasharray" ++ codes "=\"" ++ numbers_text (x ∷ xs) ++ codes "\""
 unfolding differing
 dashes_text x xs h few = rw (dash_no_none x xs (all_fit (x ∷ xs) h) few _ refl) (append-nil _)
 
 pub some_dashes : (before opened now : List ℕ) (x : ℤ) (xs ds : List ℤ) → ds ≡ x ∷ xs
     → opened ≡ before ++ (codes " " ++ codes "stroke-dasharray" ++ codes "=\"") → now ≡ opened ++ numbers_text (x ∷ xs)
-    → AllByRecursion IsScaled (x ∷ xs) → AreDashes ds → now ++ codes "\"" ≡ before ++ settings_text (dash_setting ds ∷ [])
+    → AllByRecursion IsScaled (x ∷ xs) → AreDashes ds → now ++ codes "\"" ≡ before ++ optionals_text (dash_attribute ds ∷ [])
 some_dashes before opened now x xs ds is o n h d =
     let few : length (x ∷ xs) ≤ 16 = subst (λ (w : List ℤ). length w ≤ 16) is d.few in
-    let same : settings_text (dash_setting ds ∷ []) ≡ settings_text (dash_setting (x ∷ xs) ∷ []) = ap (λ (w : List ℤ). settings_text
-    (dash_setting w ∷ [])) is in
+    let same : optionals_text (dash_attribute ds ∷ []) ≡ optionals_text (dash_attribute (x ∷ xs) ∷ []) = ap (λ (w : List ℤ). optionals_text
+    (dash_attribute w ∷ [])) is in
     ap (λ (w : List ℕ). w ++ codes "\"") (n ∙ ap (λ (w : List ℕ). w ++ numbers_text (x ∷ xs)) o)
     ∙ joined_inside before (codes " " ++ codes "stroke-dasharray" ++ codes "=\"") (numbers_text (x ∷ xs)) (codes "\"")
     ∙ ap (λ w. before ++ w) (sym (same ∙ dashes_text x xs h few))
@@ -97,16 +98,16 @@ some_dashes before opened now x xs ds is o n h d =
 pub presentation_parts : (before quoted filled drawn all : List ℕ) (fill : Option Fill) (stroke : Option Stroke)
     → before ≡ []
     → quoted ≡ before ++ codes "\""
-    → filled ≡ quoted ++ settings_text (fill_settings fill)
-    → drawn ≡ filled ++ settings_text (stroke_settings stroke)
+    → filled ≡ quoted ++ optionals_text (fill_attributes fill)
+    → drawn ≡ filled ++ optionals_text (stroke_attributes stroke)
     → all ≡ drawn ++ codes "/>\n"
     → all ≡ presentation_text fill stroke
 presentation_parts before quoted filled drawn all fill stroke none q f d e =
     e
-    ∙ ap (λ (w : List ℕ). w ++ codes "/>\n") (d ∙ ap (λ (w : List ℕ). w ++ settings_text (stroke_settings stroke)) (f
-    ∙ ap (λ (w : List ℕ). w ++ settings_text (fill_settings fill)) (q ∙ ap (λ (w : List ℕ). w ++ codes "\"") none)))
-    ∙ ap (λ (w : List ℕ). w ++ codes "/>\n") (append_assoc (codes "\"") (settings_text (fill_settings fill)) (settings_text (stroke_settings stroke)))
-    ∙ ap (λ (w : List ℕ). codes "\"" ++ w ++ codes "/>\n") (sym (settings_text-append (fill_settings fill) (stroke_settings stroke)))
+    ∙ ap (λ (w : List ℕ). w ++ codes "/>\n") (d ∙ ap (λ (w : List ℕ). w ++ optionals_text (stroke_attributes stroke)) (f
+    ∙ ap (λ (w : List ℕ). w ++ optionals_text (fill_attributes fill)) (q ∙ ap (λ (w : List ℕ). w ++ codes "\"") none)))
+    ∙ ap (λ (w : List ℕ). w ++ codes "/>\n") (append_assoc (codes "\"") (optionals_text (fill_attributes fill)) (optionals_text (stroke_attributes stroke)))
+    ∙ ap (λ (w : List ℕ). codes "\"" ++ w ++ codes "/>\n") (sym (optionals_text-append (fill_attributes fill) (stroke_attributes stroke)))
 
 path_shape : (before p o d q s t : List ℕ) → ((before ++ (p ++ o)) ++ d) ++ ((q ++ s) ++ t) ≡ before ++ ((p ++ (((o ++ d) ++ q) ++ s)) ++ t)
 path_shape before p o d q s t = simp append_assoc
@@ -120,7 +121,7 @@ unfolding item_text
 path_parts before opened described all segs fill stroke o d e =
     e
     ∙ ap (λ (w : List ℕ). w ++ presentation_text fill stroke) (d ∙ ap (λ (w : List ℕ). w ++ data_text segs) o)
-    ∙ path_shape before (codes "<path") (codes " d=\"") (data_text segs) (codes "\"") (settings_text (fill_settings fill ++ stroke_settings stroke))
+    ∙ path_shape before (codes "<path") (codes " d=\"") (data_text segs) (codes "\"") (optionals_text (fill_attributes fill ++ stroke_attributes stroke))
     (codes "/>\n")
 
 -- ---- steps of loops
@@ -153,28 +154,28 @@ family_parts before opened now family i le o n =
 -- ---- a fill and a stroke
 
 pub fill_parts : (before first : List ℕ) (fill : Option Fill) (f : Fill) (colour rule : List ℕ) → fill ≡ Some f → colour ≡ rgb_text f.rgb
-    → rule ≡ rule_text f.rule → first ≡ before ++ settings_text (setting (codes "fill") (codes "#000000") colour ∷ []) →
-    first ++ settings_text (setting (codes "fill-rule") (codes "nonzero") rule ∷ []) ≡ before ++ settings_text (fill_settings fill)
+    → rule ≡ rule_text f.rule → first ≡ before ++ optionals_text (optional (codes "fill") (codes "#000000") colour ∷ []) →
+    first ++ optionals_text (optional (codes "fill-rule") (codes "nonzero") rule ∷ []) ≡ before ++ optionals_text (fill_attributes fill)
 fill_parts before first fill f colour rule e c r h =
-    setting_step (setting (codes "fill") (codes "#000000") colour ∷ []) (setting (codes "fill-rule") (codes "nonzero") rule) before first _ h refl
-    ∙ ap (λ (w : List ℕ). before ++ settings_text (setting (codes "fill") (codes "#000000") w ∷ setting (codes "fill-rule") (codes "nonzero") rule
+    optional_step (optional (codes "fill") (codes "#000000") colour ∷ []) (optional (codes "fill-rule") (codes "nonzero") rule) before first _ h refl
+    ∙ ap (λ (w : List ℕ). before ++ optionals_text (optional (codes "fill") (codes "#000000") w ∷ optional (codes "fill-rule") (codes "nonzero") rule
     ∷ [])) c
-    ∙ ap (λ (w : List ℕ). before ++ settings_text (setting (codes "fill") (codes "#000000") (rgb_text f.rgb) ∷ setting (codes "fill-rule")
+    ∙ ap (λ (w : List ℕ). before ++ optionals_text (optional (codes "fill") (codes "#000000") (rgb_text f.rgb) ∷ optional (codes "fill-rule")
     (codes "nonzero") w ∷ [])) r
-    ∙ ap (λ (w : Option Fill). before ++ settings_text (fill_settings w)) (sym e)
+    ∙ ap (λ (w : Option Fill). before ++ optionals_text (fill_attributes w)) (sym e)
 
--- seven settings, one behind another
-pub seven_settings : (before o1 o2 o3 o4 o5 o6 : List ℕ) (a b c d e f g : Setting) → o1 ≡ before ++ settings_text (a ∷ [])
-    → o2 ≡ o1 ++ settings_text (b ∷ []) → o3 ≡ o2 ++ settings_text (c ∷ []) → o4 ≡ o3 ++ settings_text (d ∷ []) → o5 ≡ o4 ++ settings_text (e ∷ [])
-    → o6 ≡ o5 ++ settings_text (f ∷ []) →
-    o6 ++ settings_text (g ∷ []) ≡ before ++ settings_text (a ∷ b ∷ c ∷ d ∷ e ∷ f ∷ g ∷ [])
-seven_settings before o1 o2 o3 o4 o5 o6 a b c d e f g h1 h2 h3 h4 h5 h6 =
-    let h2 = setting_step (a ∷ []) b before o1 o2 h1 h2 in
-    let h3 = setting_step (a ∷ b ∷ []) c before o2 o3 h2 h3 in
-    let h4 = setting_step (a ∷ b ∷ c ∷ []) d before o3 o4 h3 h4 in
-    let h5 = setting_step (a ∷ b ∷ c ∷ d ∷ []) e before o4 o5 h4 h5 in
-    let h6 = setting_step (a ∷ b ∷ c ∷ d ∷ e ∷ []) f before o5 o6 h5 h6 in
-    setting_step (a ∷ b ∷ c ∷ d ∷ e ∷ f ∷ []) g before o6 _ h6 refl
+-- seven of them, one behind another
+pub seven_attributes : (before o1 o2 o3 o4 o5 o6 : List ℕ) (a b c d e f g : OptionalAttribute) → o1 ≡ before ++ optionals_text (a ∷ [])
+    → o2 ≡ o1 ++ optionals_text (b ∷ []) → o3 ≡ o2 ++ optionals_text (c ∷ []) → o4 ≡ o3 ++ optionals_text (d ∷ []) → o5 ≡ o4 ++ optionals_text (e ∷ [])
+    → o6 ≡ o5 ++ optionals_text (f ∷ []) →
+    o6 ++ optionals_text (g ∷ []) ≡ before ++ optionals_text (a ∷ b ∷ c ∷ d ∷ e ∷ f ∷ g ∷ [])
+seven_attributes before o1 o2 o3 o4 o5 o6 a b c d e f g h1 h2 h3 h4 h5 h6 =
+    let h2 = optional_step (a ∷ []) b before o1 o2 h1 h2 in
+    let h3 = optional_step (a ∷ b ∷ []) c before o2 o3 h2 h3 in
+    let h4 = optional_step (a ∷ b ∷ c ∷ []) d before o3 o4 h3 h4 in
+    let h5 = optional_step (a ∷ b ∷ c ∷ d ∷ []) e before o4 o5 h4 h5 in
+    let h6 = optional_step (a ∷ b ∷ c ∷ d ∷ e ∷ []) f before o5 o6 h5 h6 in
+    optional_step (a ∷ b ∷ c ∷ d ∷ e ∷ f ∷ []) g before o6 _ h6 refl
 
 -- the attributes of a frame, one behind another
 abbrev pub frame_attributes : Frame → List Attribute
@@ -213,18 +214,18 @@ svg_written before o1 o2 o3 o4 o5 d h1 h2 h3 h4 h5 =
 
 pub pen_parts : (before o1 o2 o3 o4 o5 o6 : List ℕ) (s : Stroke) (colour ends joins : List ℕ) → colour ≡ rgb_text s.rgb → ends ≡ cap_text s.cap
     → joins ≡ join_text s.join →
-    o1 ≡ before ++ settings_text (setting (codes "stroke") (codes "none") colour ∷ [])
-    → o2 ≡ o1 ++ settings_text (setting (codes "stroke-width") (codes "1") (text_of s.width) ∷ [])
-    → o3 ≡ o2 ++ settings_text (setting (codes "stroke-linecap") (codes "butt") ends ∷ [])
-    → o4 ≡ o3 ++ settings_text (setting (codes "stroke-linejoin") (codes "miter") joins ∷ []) →
-    o5 ≡ o4 ++ settings_text (setting (codes "stroke-miterlimit") (codes "4") (text_of s.miter) ∷ [])
-    → o6 ≡ o5 ++ settings_text (dash_setting s.dash ∷ []) →
-    o6 ++ settings_text (setting (codes "stroke-dashoffset") (codes "0") (text_of s.phase) ∷ []) ≡ before ++ settings_text (stroke_settings (Some s))
+    o1 ≡ before ++ optionals_text (optional (codes "stroke") (codes "none") colour ∷ [])
+    → o2 ≡ o1 ++ optionals_text (optional (codes "stroke-width") (codes "1") (text_of s.width) ∷ [])
+    → o3 ≡ o2 ++ optionals_text (optional (codes "stroke-linecap") (codes "butt") ends ∷ [])
+    → o4 ≡ o3 ++ optionals_text (optional (codes "stroke-linejoin") (codes "miter") joins ∷ []) →
+    o5 ≡ o4 ++ optionals_text (optional (codes "stroke-miterlimit") (codes "4") (text_of s.miter) ∷ [])
+    → o6 ≡ o5 ++ optionals_text (dash_attribute s.dash ∷ []) →
+    o6 ++ optionals_text (optional (codes "stroke-dashoffset") (codes "0") (text_of s.phase) ∷ []) ≡ before ++ optionals_text (stroke_attributes (Some s))
 pen_parts before o1 o2 o3 o4 o5 o6 s colour ends joins e f g h1 h2 h3 h4 h5 h6 =
-    let h1 = h1 ∙ ap (λ (w : List ℕ). before ++ settings_text (setting (codes "stroke") (codes "none") w ∷ [])) e in
-    let h3 = h3 ∙ ap (λ (w : List ℕ). o2 ++ settings_text (setting (codes "stroke-linecap") (codes "butt") w ∷ [])) f in
-    let h4 = h4 ∙ ap (λ (w : List ℕ). o3 ++ settings_text (setting (codes "stroke-linejoin") (codes "miter") w ∷ [])) g in
-    seven_settings before o1 o2 o3 o4 o5 o6 _ _ _ _ _ _ _ h1 h2 h3 h4 h5 h6
+    let h1 = h1 ∙ ap (λ (w : List ℕ). before ++ optionals_text (optional (codes "stroke") (codes "none") w ∷ [])) e in
+    let h3 = h3 ∙ ap (λ (w : List ℕ). o2 ++ optionals_text (optional (codes "stroke-linecap") (codes "butt") w ∷ [])) f in
+    let h4 = h4 ∙ ap (λ (w : List ℕ). o3 ++ optionals_text (optional (codes "stroke-linejoin") (codes "miter") w ∷ [])) g in
+    seven_attributes before o1 o2 o3 o4 o5 o6 _ _ _ _ _ _ _ h1 h2 h3 h4 h5 h6
 
 -- ---- the document
 

@@ -1,3 +1,4 @@
 pub mod Plain
 pub mod Presentations
 pub mod Ranges
+pub mod Values

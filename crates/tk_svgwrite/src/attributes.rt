@@ -5,7 +5,7 @@ ghost use Rattle.std.specs.List.{AllByRecursion};
 ghost use Rattle.tk_num.specs.Number.{IsScaled};
 ghost use Rattle.tk_num.specs.Text.{text_of};
 ghost use Rattle.tk_item.specs.Lengths.{AreDashes};
-ghost use Rattle.tk_svgwrite.specs.Plain.{attribute_text, attributes_text, setting, differing, numbers_text, dash_text};
+ghost use Rattle.tk_svgwrite.specs.Values.{attribute_text, attributes_text, optional, differing, numbers_text, dash_text};
 
 use crate::values::{put_number, put_numbers};
 use arrayvec::ArrayVec;
@@ -39,15 +39,15 @@ pub(crate) fn close_attribute(out: &mut Vec<u8>) -> Result<(), AllocError>
 }
 
 /// Writes an attribute exactly where its value is not the initial one.
-#[tactic(auto, unfolding(crate::specs::Plain::differing))]
-pub(crate) fn put_setting(
+#[tactic(auto, unfolding(crate::specs::Values::differing))]
+pub(crate) fn put_optional(
     out: &mut Vec<u8>,
     name: &[u8],
     initial: &[u8],
     value: &[u8],
 ) -> Result<(), AllocError>
     ensures { OnOk result (out.new.items
-        ≡ out.old.items ++ attributes_text (differing (setting name.now initial.now value.now ∷ []))) }
+        ≡ out.old.items ++ attributes_text (differing (optional name.now initial.now value.now ∷ []))) }
 {
     if value == initial {
         Ok(())
@@ -57,25 +57,25 @@ pub(crate) fn put_setting(
 }
 
 /// The same for a number.
-pub(crate) fn put_number_setting(
+pub(crate) fn put_optional_number(
     out: &mut Vec<u8>,
     name: &[u8],
     initial: &[u8],
     value: Scaled,
 ) -> Result<(), AllocError>
     ensures text { OnOk result (out.new.items
-        ≡ out.old.items ++ attributes_text (differing (setting name.now initial.now (text_of value) ∷ []))) }
+        ≡ out.old.items ++ attributes_text (differing (optional name.now initial.now (text_of value) ∷ []))) }
     ensures range { OnOk result (IsScaled value) }
 {
     let mut digits: Digits = ArrayVec::new();
     push_text(&mut digits, value.sp());
-    put_setting(out, name, initial, digits.as_slice())
+    put_optional(out, name, initial, digits.as_slice())
 }
 
 /// The same for dashes.
 pub(crate) fn put_dashes(out: &mut Vec<u8>, dashes: &Dashes) -> Result<(), AllocError>
     ensures text { OnOk result (out.new.items ≡ out.old.items
-        ++ attributes_text (differing (setting (codes "stroke-dasharray") (codes "none") (dash_text dashes.now) ∷ []))) }
+        ++ attributes_text (differing (optional (codes "stroke-dasharray") (codes "none") (dash_text dashes.now) ∷ []))) }
     ensures range { OnOk result (AllByRecursion IsScaled dashes.now) }
     ensures dashes { OnOk result (AreDashes dashes.now) }
 {

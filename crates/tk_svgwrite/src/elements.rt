@@ -7,14 +7,16 @@ ghost use Rattle.tk_num.specs.Text.{text_of};
 ghost use Rattle.tk_item.specs.declared.Item.TheVariants.{Path};
 ghost use Rattle.tk_svg.specs.Document.{IsFamily, size_of};
 ghost use Rattle.tk_svg.specs.Fitting.{Fits, FitsBox};
-ghost use Rattle.tk_svgwrite.specs.Plain.{attribute_text, attributes_text, differing, fill_settings, stroke_settings};
-ghost use Rattle.tk_svgwrite.specs.Plain.{item_text, points_text, numbers_text, box_text, frame_width, frame_height};
+ghost use Rattle.tk_svgwrite.specs.Plain.{fill_attributes, stroke_attributes};
+ghost use Rattle.tk_svgwrite.specs.Values.{attribute_text, attributes_text, differing};
+ghost use Rattle.tk_svgwrite.specs.Plain.{item_text, points_text, box_text, frame_width, frame_height};
+ghost use Rattle.tk_svgwrite.specs.Values.{numbers_text};
 ghost use Rattle.tk_svgwrite.specs.Plain.{svg_text};
 ghost use Rattle.tk_svgwrite.specs.Presentations.{IsKept};
 ghost use Rattle.tk_svgwrite.specs.Ranges.{FillInRange, StrokeInRange, StrokeNumbersInRange, ItemInRange};
 
 use crate::attributes::{
-    close_attribute, open_attribute, put_dashes, put_number_setting, put_setting,
+    close_attribute, open_attribute, put_dashes, put_optional, put_optional_number,
 };
 use crate::presentation::Presentation;
 use crate::values::{
@@ -72,23 +74,23 @@ fn put_path(out: &mut Vec<u8>, segs: &[Seg], presentation: &Presentation) -> Res
 
 /// Writes how a path is filled.
 pub(crate) fn put_fill(out: &mut Vec<u8>, fill: Option<Fill>) -> Result<(), AllocError>
-    ensures text { OnOk result (out.new.items ≡ out.old.items ++ attributes_text (differing (fill_settings fill))) }
+    ensures text { OnOk result (out.new.items ≡ out.old.items ++ attributes_text (differing (fill_attributes fill))) }
     ensures range { OnOk result (FillInRange fill) }
 {
     match fill {
-        None => put_setting(out, b"fill", b"#000000", b"none"),
+        None => put_optional(out, b"fill", b"#000000", b"none"),
         Some(fill) => {
-            put_setting(out, b"fill", b"#000000", &rgb_digits(fill.rgb))?;
-            put_setting(out, b"fill-rule", b"nonzero", rule_word(fill.rule))
+            put_optional(out, b"fill", b"#000000", &rgb_digits(fill.rgb))?;
+            put_optional(out, b"fill-rule", b"nonzero", rule_word(fill.rule))
         }
     }
 }
 
 /// Writes how a path is drawn.
-#[tactic(auto, unfolding(crate::specs::Plain::differing))]
+#[tactic(auto, unfolding(crate::specs::Values::differing))]
 pub(crate) fn put_stroke(out: &mut Vec<u8>, stroke: &Option<Stroke>) -> Result<(), AllocError>
     ensures text { OnOk result (out.new.items
-        ≡ out.old.items ++ attributes_text (differing (stroke_settings stroke.now))) }
+        ≡ out.old.items ++ attributes_text (differing (stroke_attributes stroke.now))) }
     ensures range { OnOk result (StrokeInRange stroke.now) }
 {
     match stroke {
@@ -99,16 +101,16 @@ pub(crate) fn put_stroke(out: &mut Vec<u8>, stroke: &Option<Stroke>) -> Result<(
 
 fn put_pen(out: &mut Vec<u8>, stroke: &Stroke) -> Result<(), AllocError>
     ensures text { OnOk result (out.new.items
-        ≡ out.old.items ++ attributes_text (differing (stroke_settings (Some stroke.now)))) }
+        ≡ out.old.items ++ attributes_text (differing (stroke_attributes (Some stroke.now)))) }
     ensures range { OnOk result (StrokeNumbersInRange stroke.now) }
 {
-    put_setting(out, b"stroke", b"none", &rgb_digits(stroke.rgb))?;
-    put_number_setting(out, b"stroke-width", b"1", stroke.width)?;
-    put_setting(out, b"stroke-linecap", b"butt", cap_word(stroke.cap))?;
-    put_setting(out, b"stroke-linejoin", b"miter", join_word(stroke.join))?;
-    put_number_setting(out, b"stroke-miterlimit", b"4", stroke.miter)?;
+    put_optional(out, b"stroke", b"none", &rgb_digits(stroke.rgb))?;
+    put_optional_number(out, b"stroke-width", b"1", stroke.width)?;
+    put_optional(out, b"stroke-linecap", b"butt", cap_word(stroke.cap))?;
+    put_optional(out, b"stroke-linejoin", b"miter", join_word(stroke.join))?;
+    put_optional_number(out, b"stroke-miterlimit", b"4", stroke.miter)?;
     put_dashes(out, &stroke.dash)?;
-    put_number_setting(out, b"stroke-dashoffset", b"0", stroke.phase)
+    put_optional_number(out, b"stroke-dashoffset", b"0", stroke.phase)
 }
 
 /// Writes the start tag of the outermost element.

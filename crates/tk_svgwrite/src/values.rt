@@ -5,8 +5,8 @@ ghost use Rattle.std.specs.Prelude.{◌≡◌, ℕ, ◌+◌, ◌/◌, ◌%◌, �
 ghost use Rattle.std.specs.List.{AllByRecursion};
 ghost use Rattle.tk_num.specs.Number.{IsScaled};
 ghost use Rattle.tk_num.specs.Text.{text_of};
-ghost use Rattle.tk_svgwrite.specs.Plain.{numbers_text, numbers_of_point, piece_text, data_text, hex_glyph, rgb_text};
-ghost use Rattle.tk_svgwrite.specs.Plain.{rule_text, cap_text, join_text};
+ghost use Rattle.tk_svgwrite.specs.Values.{numbers_text, numbers_of_point, piece_text, data_text, hex_glyph, rgb_text};
+ghost use Rattle.tk_svgwrite.specs.Values.{rule_text, cap_text, join_text};
 ghost use Rattle.tk_svgwrite.specs.Ranges.{PointInRange, PieceInRange, RgbInRange};
 
 use arrayvec::ArrayVec;

@@ -1,4 +1,4 @@
-use Rattle.tk_svg.proofs.Unique.{drawing_same}
+use Rattle.tk_svg.proofs.Documents.{drawing_same}
 use Rattle.tk_svg.proofs.document_means_one.Goals as goal
 
 pub returns : goal.returns

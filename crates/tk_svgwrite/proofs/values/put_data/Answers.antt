@@ -2,7 +2,7 @@ use Rattle.std.proofs.Common.{arith, subst}
 use Rattle.std.specs.List.{All}
 use Rattle.std.proofs.lemmas.List.{take_all}
 use Rattle.std.proofs.lemmas.List.Elements.{recursion_from_All}
-use Rattle.tk_svgwrite.specs.Plain.{piece_text}
+use Rattle.tk_svgwrite.specs.Values.{piece_text}
 use Rattle.tk_svgwrite.specs.Ranges.{PieceInRange}
 use Rattle.tk_svgwrite.proofs.Writing.{flat_map_step, all_step}
 use Rattle.tk_svgwrite.proofs.values.put_data.Goals as goal

@@ -1,6 +1,6 @@
 use Rattle.std.proofs.Common.{◌≡◌, ◌++◌, take}
 use Rattle.std.specs.List.{All}
-use Rattle.tk_svgwrite.specs.Plain.{data_text}
+use Rattle.tk_svgwrite.specs.Values.{data_text}
 use Rattle.tk_svgwrite.specs.Ranges.{PieceInRange}
 use Rattle.tk_svgwrite.proofs.values.put_data.Given as goal
 
