@@ -6,7 +6,8 @@ use Rattle.std.proofs.lemmas.List.{append_cancel_left, append_cancel_right}
 use Rattle.std.proofs.lemmas.Slice.Eq.{bytes_eq-Decides}
 use Rattle.tk_item.specs.declared.Rgb.{Rgb}
 use Rattle.tk_item.specs.declared.Item.{Item}
-use Rattle.tk_svg.specs.Scan.{Attribute, numbers_of, scaled_of, word_meaning}
+use Rattle.tk_characters.specs.Words.{word_meaning}
+use Rattle.tk_svg.specs.Scan.{Attribute, numbers_of, scaled_of}
 use Rattle.tk_svg.specs.Labels.{entities, Spells, nothing, itself, by_name, IsPlaced, by_point, by_matrix, label_of, FitsText}
 use Rattle.tk_svg.specs.Fitting.{FitsItem}
 use Rattle.tk_svg.proofs.Unique.{and_true, some_same, same_cells, split_same}

@@ -9,7 +9,8 @@ use Rattle.tk_item.specs.declared.Rgb.{Rgb}
 use Rattle.tk_item.specs.declared.Item.{Item}
 use Rattle.tk_item.specs.declared.Item.TheVariants.{Label}
 use Rattle.tk_characters.specs.Characters.{tab, line_feed, carriage_return, quote, ampersand, semicolon, less, greater}
-use Rattle.tk_svg.specs.Scan.{is_xml_char, Attribute, attribute, scaled_of, numbers_of, word_meaning}
+use Rattle.tk_characters.specs.Words.{word_meaning}
+use Rattle.tk_svg.specs.Scan.{is_xml_char, Attribute, attribute, scaled_of, numbers_of}
 
 -- ---- characters
 
