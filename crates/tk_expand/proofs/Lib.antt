@@ -2,6 +2,7 @@ pub mod Calls
 pub mod Falling
 pub mod Finished
 pub mod Fronts
+pub mod Going
 pub mod Lengths
 pub mod Moved
 pub mod NextPlaces

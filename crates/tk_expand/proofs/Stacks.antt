@@ -98,3 +98,11 @@ none_first lists is = ap (λ (ts : List Tok). slice_get ts 0) (none-left lists i
 pub no_tokens : (ts : List Tok) → length ts ≡ 0 → ts ≡ []
 no_tokens [] is = refl
 no_tokens (t ∷ ts) is = absurd (omega (arith, is))
+
+-- a token is given back to the last list
+pub given-back : (lists : List (List Tok)) (i : ℕ) (old new : List Tok) (tok : Tok) → suc i ≡ length lists → old ≡ get_or lists i old
+    → new ≡ tok ∷ old → stacked (slice_set lists i new) ≡ tok ∷ stacked lists
+given-back lists i old new tok is there first =
+    stacked-set lists i new is ∙ ap (λ (ts : List Tok). ts ++ stacked (take i lists)) first
+    ∙ ap (λ (ts : List Tok). tok ∷ (ts ++ stacked (take i lists))) there
+    ∙ ap (λ (ts : List Tok). tok ∷ ts) (sym (stacked-last lists i old is))

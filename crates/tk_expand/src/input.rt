@@ -1,6 +1,6 @@
 //! Token lists that are being read, from the front on.
 
-ghost use Rattle.std.specs.Prelude.{◌≡◌, ◌+◌, ◌<◌, ◌≤◌, ◌^◌, ◌==◌, ◌&&◌, if◌then◌else◌, [], ◌++◌, length, slice_get};
+ghost use Rattle.std.specs.Prelude.{◌≡◌, ◌+◌, ◌<◌, ◌≤◌, ◌^◌, ◌==◌, ◌&&◌, if◌then◌else◌, [], ◌∷◌, ◌++◌, length, slice_get};
 ghost use Rattle.std.specs.Prelude.{Some, None, IfOk, IfNone, IfSome, OnOk};
 ghost use Rattle.std.specs.Bool.{OnFalse, OnTrue};
 ghost use Rattle.std.specs.Option.{option_to_list, option_map};
@@ -123,6 +123,28 @@ impl Input {
             self.stack.push(list)?;
         }
         Ok(())
+    }
+
+    /// Puts a token in front. Where it is the one that was taken last, this takes memory only if it was its list's last.
+    pub fn give_back(&mut self, tok: Tok) -> Result<(), AllocError>
+        ensures { OnOk result (self.new ≡ record self.old { rest = tok ∷ self.old.rest }) }
+    {
+        if self.give_back_to_first(tok) {
+            return Ok(());
+        }
+        self.push(Body::new(self.alloc, &[tok])?)
+    }
+
+    /// Gives a token back to the list that is read first, if it was taken from there last; else all stays.
+    fn give_back_to_first(&mut self, tok: Tok) -> bool
+        ensures given { OnTrue result (self.new ≡ record self.old { rest = tok ∷ self.old.rest }) }
+        ensures kept { OnFalse result (self.new ≡ self.old) }
+    {
+        if self.stack.is_empty() {
+            return false;
+        }
+        let last = self.stack.len() - 1;
+        self.stack[last].give_back(tok)
     }
 
     /// Takes the tokens before the first `stop` outside braces, and that `stop`. There are none exactly where the list

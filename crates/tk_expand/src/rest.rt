@@ -1,6 +1,7 @@
 //! Lists of which the first tokens were read.
 
 ghost use Rattle.std.specs.Prelude.{◌≡◌, ◌<◌, ◌==◌, ◌&&◌, ◌∷◌, length, slice_get, Some, IfOk, IfNone, OnErr};
+ghost use Rattle.std.specs.Bool.{OnFalse, OnTrue};
 ghost use Rattle.std.specs.Option.{option_map};
 ghost use Rattle.tk_token.specs.Groups.{cut};
 ghost use Rattle.tk_expand.specs.Stops.{is_stop, sought_of, before_stop};
@@ -95,6 +96,21 @@ impl Rest {
         let tok = self.list.as_slice()[self.from];
         self.from += 1;
         tok
+    }
+
+    /// Gives back a token that was the last to be taken; it tells whether it was. Else all stays.
+    pub(crate) fn give_back(&mut self, tok: Tok) -> bool
+        ensures given { OnTrue result (self.new ≡ tok ∷ self.old) }
+        ensures kept { OnFalse result (self.new ≡ self.old) }
+    {
+        if self.from == 0 {
+            return false;
+        }
+        if self.list.as_slice()[self.from - 1] != tok {
+            return false;
+        }
+        self.from -= 1;
+        true
     }
 
     /// Takes the tokens before the first stop outside braces, and the stop, into memory whose own tokens are gone;

@@ -20,7 +20,6 @@ use crate::drawer::Drawer;
 use std::alloc::AllocError;
 use tk_expand::{Input, is_there};
 use tk_keys::Dir;
-use tk_store::Body;
 use tk_token::{Code, Refusal, Tok};
 
 /// The styles that run by themselves.
@@ -151,7 +150,7 @@ impl Drawer {
             ≡ keys.put_back first (configuration_of self.now path input.old)) }
     {
         match first {
-            Some(tok) => input.push(Body::new(self.state.allocator(), &[tok])?),
+            Some(tok) => input.give_back(tok),
             None => Ok(()),
         }
     }
