@@ -1,15 +1,15 @@
 pub mod CoordinateMoves
 pub mod FittingStrokes
-pub mod KeyMoves
 pub mod GridPlaces
 pub mod Kept
+pub mod KeyMoves
 pub mod Levels
 pub mod Loops
 pub mod MeasureMoves
 pub mod Meshing
-pub mod Moving
 pub mod OperationMoves
 pub mod PathMoves
+pub mod Places
 pub mod TargetMoves
 pub mod Tracing
 pub mod Unbounded

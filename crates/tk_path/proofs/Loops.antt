@@ -13,8 +13,8 @@ use Rattle.tk_path.specs.declared.path.PathOpener.{PathOpener}
 use Rattle.tk_path.specs.Configurations.{Configuration, Lookahead, work_at, ahead_of}
 use Rattle.tk_path.specs.Flow.{Goes_on, Finishes, go_on}
 use Rattle.tk_path.specs.Paths.{stretch, PathFlow, part_from, operations}
-use Rattle.tk_path.proofs.Moving.{Looks}
-use Rattle.tk_path.proofs.Unbounded.{looks_any, Leaves, part_leaves, operations_are}
+use Rattle.tk_path.proofs.Places.{Taken}
+use Rattle.tk_path.proofs.Unbounded.{taken_any, Leaves, part_leaves, operations_are}
 
 module _ (given now : Given) (same : now ≡ given) (opener : PathOpener) (start c : Configuration) (told : operations given (stretch opener start)
     ≡ operations given (stretch opener c)) where
@@ -27,8 +27,8 @@ module _ (given now : Given) (same : now ≡ given) (opener : PathOpener) (start
     known_first : ahead_of given c ≡ Ok first
     known_first = subst (λ (g : Given). ahead_of g c ≡ Ok first) same known
 
-    takes : Looks Any given c first
-    takes = known_of (Looks Any given c) (ahead_of given c) first known_first (looks_any given c)
+    takes : Taken Any given c 0 first
+    takes = known_of (Taken Any given c 0) (ahead_of given c) first known_first (taken_any given c)
 
     operations_go : operations given (stretch opener start) ≡ (part_from given (operations given) opener first
         >>= go_on (λ next. operations given (stretch opener next)))
@@ -36,7 +36,7 @@ module _ (given now : Given) (same : now ≡ given) (opener : PathOpener) (start
 
     -- a token that was taken is work that is gone
     pub taken_work : work_at given first.behind + length (option_to_list first.token) ≤ work_at given c
-    taken_work = (let w = takes.takes.work_falls in omega arith)
+    taken_work = (let w = takes.here.work in omega arith)
 
     module _ (later : Given) (so : later ≡ given) where
       at_given : (r : Answer PathFlow) → part_from later (operations later) opener first ≡ r → part_from given (operations given) opener first ≡ r
@@ -61,5 +61,7 @@ module _ (given now : Given) (same : now ≡ given) (opener : PathOpener) (start
 
       -- a part leaves less than stood before it
       pub part_less : (d : Configuration) → part_from later (operations later) opener first ≡ Ok (Goes_on d) → work_at given d < work_at given c
-      part_less d e = (known_of (Leaves given c) (part_from given (operations given) opener first) (Goes_on d) (at_given (Ok (Goes_on d)) e)
-          (part_leaves given opener c first takes)).less.less
+      part_less d e =
+          let left = known_of (Leaves given c) (part_from given (operations given) opener first) (Goes_on d) (at_given (Ok (Goes_on d)) e)
+          (part_leaves given opener c first takes) in
+          let w = left.work in omega arith

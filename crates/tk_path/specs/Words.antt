@@ -1,6 +1,8 @@
 -- The words and signs of paths. They are read letter by letter, with nothing between the letters.
-use Rattle.std.specs.Prelude.{ℕ, Bool, ◌||◌, ◌==◌, if◌then◌else◌, List, [], ◌∷◌, Option, Some, None, Ok, codes}
-use Rattle.std.specs.Prelude.{slice_get}
+use Rattle.std.specs.Prelude.{ℕ, Bool, true, not, ◌&&◌, ◌||◌, ◌==◌, if◌then◌else◌, List, [], ◌∷◌, Option, Some, None, Ok, codes}
+use Rattle.std.specs.Prelude.{slice_get, take}
+use Rattle.std.specs.List.{list_any}
+use Rattle.std.specs.Str.{bytes_eq}
 use Rattle.tk_characters.specs.Characters.{left_parenthesis, plus}
 use Rattle.tk_token.specs.declared.Kind.{Kind}
 use Rattle.tk_token.specs.declared.Kind.TheVariants.{Char}
@@ -55,6 +57,12 @@ word_table tables.Operations = operation_words
 word_table tables.Nodes = node_words
 word_table tables.Targets = target_words
 word_table tables.Controls = control_words
+
+-- whether no two of these words begin with the same two letters
+abbrev pub are_told_by_two_letters : List (List ℕ × PathWord) → Bool
+are_told_by_two_letters [] = true
+are_told_by_two_letters (row ∷ rows) =
+    not (list_any (λ (other : List ℕ × PathWord). bytes_eq (take 2 row.0) (take 2 other.0)) rows) && are_told_by_two_letters rows
 
 -- ---- reading them
 

@@ -14,9 +14,9 @@ use Rattle.tk_picture.specs.Progress.{Progress}
 use Rattle.tk_path.specs.Flow.{Goes_on, Finishes, go_on}
 use Rattle.tk_keys.proofs.Standing.{ok_at}
 use Rattle.tk_path.specs.Keys.{with_style_and_options}
-use Rattle.tk_path.proofs.KeyMoves.{styled_at}
-use Rattle.tk_path.proofs.Moving.{Comes, Looks}
-use Rattle.tk_path.proofs.Unbounded.{any_at, looks_any}
+use Rattle.tk_path.proofs.KeyMoves.{styled_here}
+use Rattle.tk_path.proofs.Places.{Here, Taken}
+use Rattle.tk_path.proofs.Unbounded.{any_here, taken_any}
 use Rattle.tk_picture.proofs.Unbounded.{Falls, command_falls, commands_are}
 use Rattle.tk_keys.proofs.Ran.{Any, any_evaluates}
 
@@ -40,7 +40,7 @@ module _ (given now : Given) (same : now ≡ given) (opener : BlockOpener) (star
     -- a token that was taken is work that is gone
     pub taken_work : work_at given first.behind + length (option_to_list first.token) ≤ work_at given c
     taken_work =
-        (let h = known_of (Looks Any given c) (ahead_of given c) first known_first (looks_any given c) in let w = h.takes.work_falls in omega arith)
+        (let h = known_of (Taken Any given c 0) (ahead_of given c) first known_first (taken_any given c) in let w = h.here.work in omega arith)
 
     module _ (later : Given) (so : later ≡ given) where
       at_given : (r : Answer CommandFlow) → command_at later (commands later) opener first.token first.behind ≡ r
@@ -74,12 +74,14 @@ module _ (given now : Given) (same : now ≡ given) (opener : BlockOpener) (star
               → command_at given (commands given) opener token first.behind ≡ Ok (Goes_on d) → work_at given d < work_at given c
           by None w e = absurd cc
           by (Some t) w e
-              = (let k = known_of (Falls given first.behind) (command_at given (commands given) opener (Some t) first.behind) (Goes_on d) e (command_falls given opener (Some t) first.behind) in let a = k.fell.work_falls in omega arith)
+              = (let k = known_of (Falls given first.behind) (command_at given (commands given) opener (Some t) first.behind) (Goes_on d) e (command_falls given opener (Some t) first.behind) in let a = k.work in omega arith)
 
 -- ---- styles
 
 -- a style and options leave no more than stood before them
 pub styled_work : (given : Given) (at : ℕ) (name : List ℕ) (c d : Configuration) → with_style_and_options given at name c ≡ Ok d
     → work_at given d ≤ work_at given c
-styled_work given at name c d e = (known_of (Comes Any given c) (with_style_and_options given at name c) d e (ok_at Any (Comes Any given c)
-    (with_style_and_options given at name c) (styled_at Any given tt (any_evaluates given) at name c tt (any_at given c)))).fell.work_falls
+styled_work given at name c d e =
+    let h = known_of (Here Any given c 0) (with_style_and_options given at name c) d e (ok_at Any (Here Any given c 0)
+    (with_style_and_options given at name c) (styled_here Any given tt (any_evaluates given) c 0 at name c tt (any_here given c)).stands) in
+    let w = h.work in omega arith

@@ -106,7 +106,7 @@ module _ (budget : ℕ) (source : List ℕ) where
     fault_at f h = told (document (given_words names budget) (unread toks (length source))) h
         (document_at (IsPlace source) (given_words names budget) (first_place source (map (token_of names) toks) lexed) (evaluates_at (IsPlace source)
         (known_words names) budget) (unread toks (length source)) (tok_places toks (token_places source (map (token_of names) toks) lexed))
-        (end_place source (map (token_of names) toks) lexed))
+        (end_place source (map (token_of names) toks) lexed)).stands
       where
         told : (m : Answer Compiled) → m ≡ Err f → Stands (IsPlace source) (λ _. Unit {0}) m → IsPlace source f.at
         told (Ok c) e k = absurd cc

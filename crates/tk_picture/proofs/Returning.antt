@@ -1,27 +1,34 @@
 -- How a run comes back from behind the end of commands.
-use Rattle.std.specs.Prelude.{ℕ}
-use Rattle.tk_expand.specs.Expand.{Stream, stream}
-use Rattle.tk_expand.proofs.Falling.{Falls, falls_then}
+use Rattle.std.specs.Prelude.{◌≡◌, ℕ, ◌+◌, ◌≤◌}
+use Rattle.tk_expand.specs.Expand.{Stream, stream, work}
 use Rattle.tk_expand.proofs.Places.{StandAt}
 use Rattle.tk_keys.specs.Given.{Given}
 use Rattle.tk_path.specs.Configurations.{Configuration, stream_at}
-use Rattle.tk_path.proofs.Moving.{Comes}
-use Rattle.tk_picture.specs.Progress.{Progress}
+use Rattle.tk_path.proofs.Places.{Here}
+use Rattle.tk_picture.specs.Progress.{Progress, progress_at, with_progress}
 
 -- the units and the list that came back
 abbrev pub stream_back : Progress → Stream
 stream_back p = stream p.picture.units p.list
 
-module _ (P : ℕ → Type 0) (given : Given) where
-  -- the run comes back from behind an end
-  pub record Returns (c : Configuration) (p : Progress) : Type 0 where
-    pub fell : Falls given.budget (stream_at c) (stream_back p)
+module _ (P : ℕ → Type 0) (given : Given) (from : Configuration) where
+  -- this came back from behind an end, and so much of the work is gone
+  pub record Back (gone : ℕ) (p : Progress) : Type 0 where
+    pub end : p.list.end ≡ from.list.end
+    pub units : from.picture.units ≤ p.picture.units
+    pub work : work given.budget (stream_back p) + gone ≤ work given.budget (stream_at from)
     pub rest : StandAt P p.list.rest
-    pub end : P p.list.end
+    pub last : P p.list.end
 
-  pub then_returns : (c d : Configuration) (p : Progress) → Comes P given c d → Returns d p → Returns c p
-  then_returns c d p a b = record {
-    fell = falls_then given.budget (stream_at c) (stream_at d) (stream_back p) a.fell b.fell;
-    rest = b.rest;
+  pub comes_back : (gone : ℕ) (c : Configuration) → Here P given from gone c → Back gone (progress_at c)
+  comes_back gone c h = record { end = h.end; units = h.units; work = h.work; rest = h.good.rest; last = h.good.end }
+
+  -- the run goes on with it where the block began
+  pub goes_on_with : (gone before : ℕ) (c : Configuration) (p : Progress) → Here P given from before c → Back gone p
+      → Here P given from gone (with_progress c p)
+  goes_on_with gone before c p h b = record {
     end = b.end;
+    units = b.units;
+    work = b.work;
+    good = record { env = h.good.env; rest = b.rest; end = b.last };
   }
