@@ -245,7 +245,7 @@ fn outcome(alloc: Global, source: &str, budget: u64) -> Result<String, Fail> {
     if bytes.len() > 1_000 || budget > 1_000 {
         return Err("too much".into());
     }
-    match compile(alloc, bytes, budget) {
+    match compile(alloc, bytes, Asked { budget }) {
         Ok(compiled) => Ok(shown(alloc, &compiled)?),
         Err(Refusal::Fault(fault)) => Ok(fault_shown(alloc, fault)?),
         Err(Refusal::OutOfMemory) => Err("no memory".into()),

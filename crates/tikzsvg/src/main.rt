@@ -1,19 +1,13 @@
 //! tikzsvg: compiles TikZ pictures to SVG documents.
 //!
-//! [`program::run`] is the whole program over any shelf of files and any two sinks. What stands
+//! [`tk_program::run`] is the whole program over any shelf of files and any two sinks. What stands
 //! here hands it those of the host.
 #![tactic(auto)]
 
-mod document;
-mod lines;
-mod program;
-mod words;
-
-use program::{run, without_words};
 use std::env;
 use std::process::ExitCode;
 use tk_io::{ErrSink, FileShelf, OutSink};
-use words::own_words;
+use tk_program::{own_words, run, without_words};
 
 fn main(rt: HostRuntime) -> ExitCode {
     let mut err = ErrSink::new(rt.stderr());

@@ -118,12 +118,12 @@ rest_left name old mid new n is others input left =
 leaves_of : (name : List ℕ) (old now : Shelved) (bytes : List ℕ) → SoFar name old bytes now → Leaves name old now
 leaves_of name old now bytes so = elim (by_name name) [
   | inl is ↦ by_length (length bytes) so.taken so.unmoved (so.moved is) is
-  | inr other ↦ all_kept (so.holds other)
+  | inr other ↦ all_kept (so.holds other) (λ is. absurd (other is))
 ]
   where
     by_length : (n : ℕ) → now.taken ≡ n → (n ≡ 0 → now.holds ≡ old.holds) → (0 < n → LeavesOfInput (drop n) old now) → name ≡ standard_input
         → Leaves name old now
-    by_length zero taken unmoved moved is = all_kept (unmoved refl)
+    by_length zero taken unmoved moved is = all_kept (unmoved refl) (λ _. taken)
     by_length (suc n) taken unmoved moved is = input_read is (subst (λ (k : ℕ). LeavesOfInput (drop k) old now) (sym taken) (moved (omega arith)))
 
 -- one read more
@@ -197,7 +197,7 @@ ReadsAll-end name old mid new bytes buffer before read short room = record {
   leaves = elim (by_name name) [
     | inl is ↦ input_read is (subst (λ (k : ℕ). LeavesOfInput (drop k) old new) (sym taken_so) (rest_left name old mid new (length bytes) is
         before.others read.input left_so))
-    | inr other ↦ all_kept (read.holds other ∙ before.holds other)
+    | inr other ↦ all_kept (read.holds other ∙ before.holds other) (λ is. absurd (other is))
   ];
   emptied = λ is. told_by old.holds (λ holds. new.holds ≡ Some (with_input (Some []) holds)) (λ holds e.
       told_at old.holds (λ holds. new.holds ≡ Some (with_input (Some (drop (length bytes) (unwrap_or (holds standard_input) []))) holds)) holds e
@@ -259,7 +259,7 @@ ReadsAll-failed name old mid new bytes buffer failed before read = record {
   leaves = elim (by_name name) [
     | inl is ↦ input_read is (subst (λ (k : ℕ). LeavesOfInput (drop k) old new) (sym (read.none_taken ∙ before.taken)) (rest_left name old mid new
         (length bytes) is before.others read.input left_so))
-    | inr other ↦ all_kept (read.holds other ∙ before.holds other)
+    | inr other ↦ all_kept (read.holds other ∙ before.holds other) (λ is. absurd (other is))
   ];
   emptied = λ _. tt;
   long_input = λ _ e. cc;

@@ -119,7 +119,7 @@ Opens-failed name stock failed None here fits no_fall = record {
   only = tt;
   closed = λ n. refl;
   left = tt;
-  taken = tt;
+  taken = refl;
   holds = refl;
 }
 Opens-failed name stock failed (Some place) here fits no_fall = record {
@@ -132,7 +132,7 @@ Opens-failed name stock failed (Some place) here fits no_fall = record {
   only = tt;
   closed = λ n. refl;
   left = tt;
-  taken = tt;
+  taken = refl;
   holds = refl;
 }
 

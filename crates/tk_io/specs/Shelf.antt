@@ -34,10 +34,11 @@ LeavesOfInput rest old new =
     IfSome old.holds (λ holds.
     new.holds ≡ Some (with_input (Some (rest (unwrap_or (holds standard_input) []))) holds))
 
--- reading a file leaves on the shelf what it held; of standard input, where that is the file, only
--- what is behind the bytes that were taken
+-- reading a file leaves on the shelf what it held, and nothing was taken if it is standard input;
+-- or of standard input exactly what is behind the bytes that were taken is left
 pub data Leaves (name : List ℕ) (old new : Shelved) : Type 0 where
-  all_kept : new.holds ≡ old.holds → Leaves name old new
+  all_kept :
+      new.holds ≡ old.holds → (name ≡ standard_input → new.taken ≡ 0) → Leaves name old new
   input_read :
       name ≡ standard_input → LeavesOfInput (drop new.taken) old new → Leaves name old new
 
@@ -70,7 +71,7 @@ pub record Opens
   pub closed : OnErr result ((n : List ℕ) → new.is_open n ≡ false)
   pub left :
       OnOk result (IfSome old.holds (λ holds. new.left ≡ Some (unwrap_or (holds name) [])))
-  pub taken : OnOk result (new.taken ≡ 0)
+  pub taken : new.taken ≡ 0
   pub holds : new.holds ≡ old.holds
 
 -- the first n bytes of what is left are in front in the buffer, and the rest is left

@@ -11,11 +11,7 @@ use Rattle.tk_token.specs.Token.{Token}
 use Rattle.tk_token.proofs.Faulty.{before_fault, before_tokens}
 use Rattle.tk_token.proofs.Total.{each_source_lexes}
 use Rattle.tk_token.proofs.Unique.{lexes_same}
-
--- a place that has a line and a column: it stands within the source, behind whole characters
-pub record IsPlace (source : List ℕ) (at : ℕ) : Type 0 where
-  pub within : at ≤ length source
-  pub text : IsUtf8 (take at source)
+use Rattle.tk_picture.specs.Outcome.{IsPlace}
 
 -- each source is cut or refused
 pub some_tokens : (source : List ℕ) → (answer : Answer (List Token)) × Lexes source answer

@@ -1,25 +1,34 @@
 //! Laws of what sources stand for.
 
-ghost use Rattle.std.specs.Prelude.{◌≡◌, ℕ, List};
+ghost use Rattle.std.specs.Prelude.{◌≡◌, ℕ, List, Err};
+ghost use Rattle.tk_token.specs.declared.Fault.{Fault as AFault};
 ghost use Rattle.tk_token.specs.Answers.{Answer};
 ghost use Rattle.tk_token.specs.Recursion.{by_size};
 ghost use Rattle.tk_keys.specs.Given.{Given};
+ghost use Rattle.tk_picture.specs.declared.Asked.{Asked as AnAsked};
 ghost use Rattle.tk_picture.specs.declared.Compiled.{Compiled as ACompiled};
 ghost use Rattle.tk_picture.specs.Progress.{Progress};
 ghost use Rattle.tk_picture.specs.Commands.{Block, block_work, commands, commands_step};
-ghost use Rattle.tk_picture.specs.Outcome.{IsOutcome};
+ghost use Rattle.tk_picture.specs.Outcome.{IsOutcome, IsPlace};
 
-/// Each source stands for a drawing or has a fault, with each budget.
+/// Each source stands for a drawing or has a fault, whatever is asked of it.
 pub fn each_source_has_an_outcome()
-    ensures { (budget : ℕ) (source : List ℕ) → (outcome : Answer ACompiled) × IsOutcome budget source outcome }
+    ensures { (asked : AnAsked) (source : List ℕ) → (outcome : Answer ACompiled) × IsOutcome asked source outcome }
 {}
 
-/// With one budget no source stands for two drawings, has two faults, or both.
+/// No source stands for two drawings, has two faults, or both, where the same is asked of it.
 pub fn a_source_has_one_outcome()
-    ensures { (budget : ℕ) (source : List ℕ) (a b : Answer ACompiled)
-        → IsOutcome budget source a
-        → IsOutcome budget source b
+    ensures { (asked : AnAsked) (source : List ℕ) (a b : Answer ACompiled)
+        → IsOutcome asked source a
+        → IsOutcome asked source b
         → a ≡ b }
+{}
+
+/// A source's fault stands in it, with whole characters before.
+pub fn a_fault_stands_in_its_source()
+    ensures { (asked : AnAsked) (source : List ℕ) (fault : AFault)
+        → IsOutcome asked source (Err fault)
+        → IsPlace source fault.at }
 {}
 
 /// Commands are what one step of their definition says.

@@ -8,12 +8,19 @@ mod laws;
 mod picture;
 
 pub use laws::{
-    a_source_has_one_outcome, commands_are_never_stuck, commands_are_their_step,
-    each_source_has_an_outcome,
+    a_fault_stands_in_its_source, a_source_has_one_outcome, commands_are_never_stuck,
+    commands_are_their_step, each_source_has_an_outcome,
 };
 pub use picture::compile;
 use tk_item::Drawing;
 use tk_token::{Code, Fault};
+
+/// What is asked of a source.
+#[derive(Clone, Copy, PartialEq, Eq)]
+pub struct Asked {
+    /// The most units that its run may pay: for calls of macros, the code of keys, and the lines of grids.
+    pub budget: u64,
+}
 
 /// What a source draws, and what it costs.
 #[derive(Drop)]

@@ -16,7 +16,7 @@ ghost use Rattle.tk_path.specs.Views.{given_to, picture_of, IsSound};
 ghost use Rattle.tk_picture.specs.Views.{IsNew};
 
 use crate::commands::{BlockOpener, styled_commands};
-use crate::{Compiled, unbuilt};
+use crate::{Asked, Compiled, unbuilt};
 use std::alloc::{AllocError, Global};
 use tk_expand::Input;
 use tk_expr::FontUnits;
@@ -69,11 +69,11 @@ const EX: i64 = 281_805;
 ///   the transformation so.
 /// - `Unbuilt` comes before the picture and behind it at the first token with which no source of the form goes on, at
 ///   the source's length where it ends outside the picture, and at `\node`, `\coordinate` and `\foreach`.
-pub fn compile(alloc: Global, source: &[u8], budget: u64) -> Result<Compiled, Refusal>
+pub fn compile(alloc: Global, source: &[u8], asked: Asked) -> Result<Compiled, Refusal>
     requires short { length source.now ≤ 16777216 }
-    requires few { budget ≤ 20000000 }
-    ensures compiled { IfOk result (λ c. IsOutcome budget source.now (Ok c)) }
-    ensures fault { IfErr result (λ e. OnFault e (λ f. IsOutcome budget source.now (Err f))) }
+    requires few { asked.budget ≤ 20000000 }
+    ensures compiled { IfOk result (λ c. IsOutcome asked source.now (Ok c)) }
+    ensures fault { IfErr result (λ e. OnFault e (λ f. IsOutcome asked source.now (Err f))) }
 
     // The drawing can be written as a document, and a fault has a line and a column.
     ensures fits { IfOk result (λ c. Fits c.drawing) }
@@ -85,7 +85,7 @@ pub fn compile(alloc: Global, source: &[u8], budget: u64) -> Result<Compiled, Re
     let Lexed { toks, names } = lex(alloc, source)?;
     let mut input = Input::new(alloc, Body::from_vec(toks)?, source.len() as u32)?;
     let mut drawer = Drawer {
-        state: State::new(alloc, names, font_units(), budget)?,
+        state: State::new(alloc, names, font_units(), asked.budget)?,
         items: Items::new(alloc),
         frame: None,
     };

@@ -1,28 +1,17 @@
--- What a caller learns of a source.
-use Rattle.std.specs.Prelude.{◌≡◌, ℕ, List, Ok, Err}
-use Rattle.tk_token.specs.declared.Fault.{Fault}
-use Rattle.tk_token.specs.Places.{line_of, column_of}
-use Rattle.tk_picture.specs.declared.Compiled.{Compiled}
-use Rattle.tk_picture.specs.Outcome.{IsOutcome}
-use Rattle.tk_svg.specs.Document.{IsDocument}
-use Rattle.uses.specs.declared.FaultAt.{FaultAt}
-use Rattle.uses.specs.declared.NoSvg.{NoSvg}
-use Rattle.uses.specs.declared.NoSvg.TheVariants as causes
+-- What a caller learns of sources.
+use Rattle.std.specs.Prelude.{◌≡◌, ◌↔◌, Bool, IsTrue, ℕ, List, Ok}
+use Rattle.tk_item.specs.declared.Drawing.{Drawing}
+use Rattle.tk_picture.specs.declared.Asked.{Asked}
+use Rattle.tk_render.specs.Rendered.{ComesTo}
 
--- the source draws something, and the bytes are a document for it
-abbrev pub IsSvgOf : List ℕ → List ℕ → Type 0
-IsSvgOf source bytes = (c : Compiled) × IsOutcome 1000000 source (Ok c) × IsDocument bytes c.drawing
+-- what is asked of each source: its run may cost a million units
+abbrev pub asked : Asked
+asked = record { budget = 1000000 }
 
--- the source has that fault first, at that line and column
-abbrev pub IsFaultOf : List ℕ → FaultAt → Type 0
-IsFaultOf source found =
-    (fault : Fault)
-    × IsOutcome 1000000 source (Err fault)
-    × (found.code ≡ fault.code)
-    × (found.line ≡ line_of source fault.at)
-    × (found.column ≡ column_of source fault.at)
-
--- a cause is true of the source; want of memory says nothing
-abbrev pub Explains : List ℕ → NoSvg → Type 0
-Explains source (causes.Fault found) = IsFaultOf source found
-Explains source causes.OutOfMemory = Unit {0}
+-- each of two sources draws something, and this says whether both drawings are the same
+pub record Compares (same : Bool) (one other : List ℕ) : Type 0 where
+  pub first : Drawing
+  pub second : Drawing
+  pub first_is : ComesTo asked one (Ok first)
+  pub second_is : ComesTo asked other (Ok second)
+  pub alike : IsTrue same ↔ (first ≡ second)

@@ -1,48 +1,33 @@
-//! How a caller of the libraries gets a document from a source, and the place of a fault where there is none. What is
-//! promised here is proved from the contracts of `compile`, `write_svg` and `place` alone.
+//! How a caller uses the libraries: the document of a source, and whether two sources draw the same. What is promised
+//! here is proved from the contract of `render` alone.
 #![tactic(auto)]
 
 ghost use Rattle.std.specs.Prelude.{◌≤◌, length, IfOk, IfErr};
-ghost use Rattle.uses.specs.Documents.{IsSvgOf, Explains};
+ghost use Rattle.tk_render.specs.Rendered.{IsSvgOf, Explains};
+ghost use Rattle.uses.specs.Documents.{asked, Compares};
 
 use std::alloc::Global;
-use tk_picture::compile;
-use tk_svgwrite::write_svg;
-use tk_token::{Code, Refusal, place};
+use tk_picture::Asked;
+use tk_render::{NoSvg, render};
 
-/// A fault with its line and column, counted from 1.
-#[derive(Clone, Copy, PartialEq, Eq)]
-pub struct FaultAt {
-    pub code: Code,
-    pub line: u32,
-    pub column: u32,
-}
-
-/// Why a source has no document.
-#[derive(Clone, Copy, PartialEq, Eq)]
-pub enum NoSvg {
-    /// The source's first fault.
-    Fault(FaultAt),
-    /// No memory was left.
-    OutOfMemory,
-}
-
-/// The SVG document of a source, whose run may cost a million units.
+/// The SVG document of a source, whose run may cost a million units; or its first fault, with line and column.
 pub fn svg_of(alloc: Global, source: &[u8]) -> Result<Vec<u8>, NoSvg>
     requires short { length source.now ≤ 16777216 }
-    ensures document { IfOk result (λ bytes. IsSvgOf source.now bytes.items) }
-    ensures fault { IfErr result (Explains source.now) }
+    ensures document { IfOk result (λ document. IsSvgOf asked source.now document.items) }
+    ensures fault { IfErr result (Explains asked source.now) }
 {
-    match compile(alloc, source, 1_000_000) {
-        Ok(compiled) => match write_svg(alloc, &compiled.drawing) {
-            Ok(document) => Ok(document),
-            Err(_) => Err(NoSvg::OutOfMemory),
-        },
-        Err(Refusal::Fault(fault)) => {
-            let (line, column) = place(source, fault.at);
-            let code = fault.code;
-            Err(NoSvg::Fault(FaultAt { code, line, column }))
-        }
-        Err(Refusal::OutOfMemory) => Err(NoSvg::OutOfMemory),
-    }
+    let budget = 1_000_000;
+    render(alloc, source, Asked { budget })
+}
+
+/// Whether two sources draw the same. Documents tell that: one drawing has one document, and a document reads back as
+/// one drawing.
+pub fn draw_alike(alloc: Global, one: &[u8], other: &[u8]) -> Result<bool, NoSvg>
+    requires one_short { length one.now ≤ 16777216 }
+    requires other_short { length other.now ≤ 16777216 }
+    ensures { IfOk result (λ same. Compares same one.now other.now) }
+{
+    let first = svg_of(alloc, one)?;
+    let second = svg_of(alloc, other)?;
+    Ok(first.as_slice() == second.as_slice())
 }

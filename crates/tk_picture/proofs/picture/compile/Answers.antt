@@ -10,22 +10,22 @@ use Rattle.tk_picture.proofs.picture.compile.Goals as goal
 
 pub returns-in_err-toks-clause-fault : goal.returns-in_err-toks-clause-fault
 returns-in_err-toks-clause-fault c =
-    let h = byte_outcome c.args.budget c.args.source.now c.in_err-toks.field-0.0 c.in_err-toks.ensures.fault in search rules
+    let h = byte_outcome c.args.asked c.args.source.now c.in_err-toks.field-0.0 c.in_err-toks.ensures.fault in search rules
 
 pub returns-in_err-toks-clause-place : goal.returns-in_err-toks-clause-place
 returns-in_err-toks-clause-place c =
-    let h = byte_place c.args.budget c.args.source.now c.in_err-toks.field-0.0 c.in_err-toks.ensures.fault in search rules
+    let h = byte_place c.args.asked c.args.source.now c.in_err-toks.field-0.0 c.in_err-toks.ensures.fault in search rules
 
 pub returns-in_err-toks-clause-text : goal.returns-in_err-toks-clause-text
 returns-in_err-toks-clause-text c =
-    let h = byte_text c.args.budget c.args.source.now c.in_err-toks.field-0.0 c.in_err-toks.ensures.fault in search rules
+    let h = byte_text c.args.asked c.args.source.now c.in_err-toks.field-0.0 c.in_err-toks.ensures.fault in search rules
 
 pub returns-in_err-document-clause-fault : goal.returns-in_err-document-clause-fault
 returns-in_err-document-clause-fault c =
     let lexed = c.in_ok-toks.field-0 in
-    let is = ran_over lexed.names c.args.budget c.font_units.result c.in_ok-new.field-0 c.in_ok-input.input lexed.toks.items
+    let is = ran_over lexed.names c.args.asked.budget c.font_units.result c.in_ok-new.field-0 c.in_ok-input.input lexed.toks.items
     (length c.args.source.now) c.in_ok-new.ensures c.font_units.ensures (rw c.in_ok-from_vec.ensures at c.in_ok-input.ensures) in
-    let h = fault_outcome c.args.budget c.args.source.now lexed.names lexed.toks.items c.in_ok-toks.ensures.tokens c.in_ok-toks.ensures.listed
+    let h = fault_outcome c.args.asked c.args.source.now lexed.names lexed.toks.items c.in_ok-toks.ensures.tokens c.in_ok-toks.ensures.listed
     c.in_ok-toks.ensures.words c.in_ok-toks.ensures.once c.in_err-document.field-0.0 (document (given_of evaluated c.in_ok-new.field-0)
     c.in_ok-input.input) is c.in_err-document.ensures.gives in
     let p = err_from_is_err_and c.from_residual-in_err-document.result c.from_residual-in_err-document.ensures.1 in
@@ -34,9 +34,9 @@ returns-in_err-document-clause-fault c =
 pub returns-in_err-document-clause-place : goal.returns-in_err-document-clause-place
 returns-in_err-document-clause-place c =
     let lexed = c.in_ok-toks.field-0 in
-    let is = ran_over lexed.names c.args.budget c.font_units.result c.in_ok-new.field-0 c.in_ok-input.input lexed.toks.items
+    let is = ran_over lexed.names c.args.asked.budget c.font_units.result c.in_ok-new.field-0 c.in_ok-input.input lexed.toks.items
     (length c.args.source.now) c.in_ok-new.ensures c.font_units.ensures (rw c.in_ok-from_vec.ensures at c.in_ok-input.ensures) in
-    let h = fault_place c.args.budget c.args.source.now lexed.names lexed.toks.items c.in_ok-toks.ensures.tokens c.in_ok-toks.ensures.listed
+    let h = fault_place c.args.asked c.args.source.now lexed.names lexed.toks.items c.in_ok-toks.ensures.tokens c.in_ok-toks.ensures.listed
     c.in_ok-toks.ensures.words c.in_ok-toks.ensures.once c.in_err-document.field-0.0 (document (given_of evaluated c.in_ok-new.field-0)
     c.in_ok-input.input) is c.in_err-document.ensures.gives in
     let p = err_from_is_err_and c.from_residual-in_err-document.result c.from_residual-in_err-document.ensures.1 in
@@ -45,9 +45,9 @@ returns-in_err-document-clause-place c =
 pub returns-in_err-document-clause-text : goal.returns-in_err-document-clause-text
 returns-in_err-document-clause-text c =
     let lexed = c.in_ok-toks.field-0 in
-    let is = ran_over lexed.names c.args.budget c.font_units.result c.in_ok-new.field-0 c.in_ok-input.input lexed.toks.items
+    let is = ran_over lexed.names c.args.asked.budget c.font_units.result c.in_ok-new.field-0 c.in_ok-input.input lexed.toks.items
     (length c.args.source.now) c.in_ok-new.ensures c.font_units.ensures (rw c.in_ok-from_vec.ensures at c.in_ok-input.ensures) in
-    let h = fault_text c.args.budget c.args.source.now lexed.names lexed.toks.items c.in_ok-toks.ensures.tokens c.in_ok-toks.ensures.listed
+    let h = fault_text c.args.asked c.args.source.now lexed.names lexed.toks.items c.in_ok-toks.ensures.tokens c.in_ok-toks.ensures.listed
     c.in_ok-toks.ensures.words c.in_ok-toks.ensures.once c.in_err-document.field-0.0 (document (given_of evaluated c.in_ok-new.field-0)
     c.in_ok-input.input) is c.in_err-document.ensures.gives in
     let p = err_from_is_err_and c.from_residual-in_err-document.result c.from_residual-in_err-document.ensures.1 in
@@ -56,9 +56,9 @@ returns-in_err-document-clause-text c =
 pub returns-clause-compiled : goal.returns-clause-compiled
 returns-clause-compiled c =
     let lexed = c.in_ok-toks.field-0 in
-    let is = ran_over lexed.names c.args.budget c.font_units.result c.in_ok-new.field-0 c.in_ok-input.input lexed.toks.items
+    let is = ran_over lexed.names c.args.asked.budget c.font_units.result c.in_ok-new.field-0 c.in_ok-input.input lexed.toks.items
     (length c.args.source.now) c.in_ok-new.ensures c.font_units.ensures (rw c.in_ok-from_vec.ensures at c.in_ok-input.ensures) in
-    let h = drawing_outcome c.args.budget c.args.source.now lexed.names lexed.toks.items c.in_ok-toks.ensures.tokens c.in_ok-toks.ensures.listed
+    let h = drawing_outcome c.args.asked c.args.source.now lexed.names lexed.toks.items c.in_ok-toks.ensures.tokens c.in_ok-toks.ensures.listed
     c.in_ok-toks.ensures.words c.in_ok-toks.ensures.once c.compiled.result (sym is ∙ c.in_ok-document.ensures.gives
     ∙ ap (λ (d : Compiled). (let a : Answer Compiled = Ok d in a)) (sym c.compiled.ensures.compiled)) in
     search rules

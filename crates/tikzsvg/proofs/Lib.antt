@@ -1,4 +1,0 @@
-pub mod Drawn
-pub mod Forms
-pub mod Saying
-pub mod Statuses

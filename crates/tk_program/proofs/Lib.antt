@@ -1,0 +1,4 @@
+pub mod Forms
+pub mod Rendered
+pub mod Saying
+pub mod Statuses
