@@ -1,14 +1,11 @@
 -- The document that is written stands for the drawing.
-use Rattle.std.proofs.Common.{◌≡◌, ℕ, ◌*◌, ◌/◌, ◌<◌, Bool, ◌&&◌, true, false, eqb, List, [], ◌∷◌, ◌++◌, length, Option, Some, None, refl, sym, ap}
-use Rattle.std.proofs.Common.{◌∙◌, arith, append_assoc, lit<, inl, inr, suc, ◌||◌}
-use Rattle.std.specs.Prelude.{ℤ, pos, negsuc, neg_ℤ, ◌+ℤ◌, ◌*ℤ◌, int_div, unsigned_abs, codes, nat_le, flat_map, IsAscii, bytes_eq}
+use Rattle.std.proofs.Common.{◌≡◌, ℕ, ◌*◌, ◌/◌, ◌<◌, true, false, List, [], ◌∷◌, ◌++◌, Option, Some, None, refl, sym, ap}
+use Rattle.std.proofs.Common.{◌∙◌, arith, append_assoc, lit<, inl, inr, suc}
+use Rattle.std.specs.Prelude.{ℤ, pos, negsuc, neg_ℤ, ◌+ℤ◌, ◌*ℤ◌, int_div, unsigned_abs, codes, flat_map, bytes_eq}
 use Rattle.std.specs.List.{list_all, list_any, AllByRecursion}
 use Rattle.std.proofs.lemmas.Bool.Decides.{nat_tests}
 use Rattle.std.proofs.lemmas.Int.{ints, unsigned_abs-mul}
 use Rattle.std.proofs.lemmas.List.{append-nil}
-use Rattle.std.proofs.lemmas.List.Sums.{AllPass-from_list_all}
-use Rattle.std.proofs.lemmas.Str.{IsUtf8-from_ascii, chars-IsAscii}
-use Rattle.std.proofs.lemmas.Str.Ascii.{IsAscii-from_all}
 use Rattle.tk_num.specs.Number.{IsScaled}
 use Rattle.tk_num.specs.Text.{text_of}
 use Rattle.tk_item.specs.declared.Seg.{Seg}
@@ -16,18 +13,20 @@ use Rattle.tk_item.specs.declared.Fill.{Fill}
 use Rattle.tk_item.specs.declared.Stroke.{Stroke}
 use Rattle.tk_item.specs.declared.Frame.{Frame}
 use Rattle.tk_item.specs.declared.Item.{Item}
-use Rattle.tk_item.specs.declared.Item.TheVariants.{Path, Label}
+use Rattle.tk_item.specs.declared.Item.TheVariants as item
 use Rattle.tk_item.specs.declared.Drawing.{Drawing}
-use Rattle.tk_svg.specs.Scan.{is_xml_char, is_xml_blank, is_name_byte, is_value_byte, after_blanks, Attribute, attribute, Attributes, none, one}
-use Rattle.tk_svg.specs.Scan.{EndsTag, IsName, are_among, are_distinct}
+use Rattle.tk_svg.specs.Scan.{attribute}
+use Rattle.tk_svg.specs.Scan.{are_among, are_distinct}
 use Rattle.tk_svg.specs.Paint.{paint_names, fill_of, stroke_of}
 use Rattle.tk_svg.specs.Document.{IsPathElement, Content, IsSvg, IsDocument, IsFamily, is_family_char, size_of, points_value, declaration}
 use Rattle.tk_svg.specs.Document as doc
-use Rattle.tk_svg.specs.Fitting.{Fits, FitsItem, IsPath, FitsBox}
+use Rattle.tk_svg.specs.Fitting.{Fits, FitsItem, FitsBox}
 use Rattle.tk_svg.proofs.Numbers.{number_back}
-use Rattle.tk_svg.proofs.Unique.{and_true}
-use Rattle.tk_svgwrite.specs.Plain.{fill_attributes, stroke_attributes, path_attributes}
-use Rattle.tk_svgwrite.specs.Values.{attribute_text, attributes_text, OptionalAttribute, differing, data_text}
+use Rattle.tk_svgwrite.proofs.Lines.{weaker_test, attributes_back, is_line, attributes_line, attribute_is_written, IsClean, clean_both, clean_line}
+use Rattle.tk_svgwrite.proofs.Texts.{content_inside, label_is, label_written, label_clean}
+use Rattle.tk_svgwrite.specs.Values.{content_text}
+use Rattle.tk_svgwrite.specs.Plain.{label_attributes, label_text, fill_attributes, stroke_attributes, path_attributes}
+use Rattle.tk_svgwrite.specs.Values.{attributes_text, OptionalAttribute, differing, data_text}
 use Rattle.tk_svgwrite.specs.Plain.{item_text, frame_width, frame_height, points_text, box_text, svg_attributes, svg_text, document_text}
 use Rattle.tk_svgwrite.specs.Ranges.{FillInRange, StrokeInRange, ItemInRange}
 use Rattle.tk_svgwrite.proofs.Numbers.{is_plain, all_both, text_plain, numbers_plain, list_back}
@@ -35,61 +34,7 @@ use Rattle.tk_svgwrite.proofs.PathData.{unsigned_abs-neg, neg-neg, scaled_fits, 
 use Rattle.tk_svgwrite.proofs.Paint.{rgb_plain, rule_plain, cap_plain, join_plain, dash_plain, scaled_back, fill_means, stroke_means}
 use Rattle.tk_svgwrite.proofs.Optionals.{IsWritten, has_name, are_apart, absent_name_has_no_value, distinct_back, among_back, written_back}
 
--- ---- attributes
-
-weaker_test : (p q : ℕ → Bool) → ((c : ℕ) → p c ≡ true → q c ≡ true) → (cs : List ℕ) → list_all p cs ≡ true → list_all q cs ≡ true
-weaker_test p q f [] h = refl
-weaker_test p q f (c ∷ cs) h =
-    let both = and_true (p c) (list_all p cs) h in
-    rw (f c both.0, weaker_test p q f cs both.1) refl
-
-plain_is_value : (c : ℕ) → is_plain c ≡ true → is_value_byte c ≡ true
-plain_is_value c h = grind (arith, nat_tests)
-
-name_no_blank : (c : ℕ) → is_name_byte c ≡ true → is_xml_blank c ≡ false
-name_no_blank c h = grind (arith, nat_tests)
-
-name_starts : (name rest : List ℕ) → IsName name → after_blanks (name ++ rest) ≡ name ++ rest
-name_starts [] rest is = absurd (omega (arith, is.some))
-name_starts (c ∷ cs) rest is = rw (name_no_blank c (and_true _ _ is.each).0) refl
-
-parts_of : (name value more rest : List ℕ)
-    → ((((name ++ codes "=\"") ++ value) ++ codes "\"") ++ more) ++ rest ≡ name ++ 61 ∷ 34 ∷ (value ++ 34 ∷ (more ++ rest))
-parts_of name value more rest = simp append_assoc
-
-attributes_back : (attributes : List Attribute) (rest : List ℕ) → AllByRecursion IsWritten attributes → after_blanks rest ≡ rest → EndsTag rest
-    → Attributes (attributes_text attributes ++ rest) attributes rest
-attributes_back [] rest h b e = none b e
-attributes_back (a ∷ others) rest h b e =
-    let parts = parts_of a.0 a.1 (attributes_text others) rest in
-    one {name = a.0} {value = a.1} {more = attributes_text others ++ rest} refl (ap after_blanks parts ∙ name_starts a.0 _ h.0.name) h.0.name
-    (weaker_test is_plain is_value_byte plain_is_value a.1 h.0.value) (attributes_back others rest h.1 b e)
-
--- a line feed, or a printable ASCII character
-abbrev pub is_line : ℕ → Bool
-is_line c = eqb c 10 || (nat_le 32 c && nat_le c 126)
-
-plain_is_line : (c : ℕ) → is_plain c ≡ true → is_line c ≡ true
-plain_is_line c h = grind (arith, nat_tests)
-
-name_is_line : (c : ℕ) → is_name_byte c ≡ true → is_line c ≡ true
-name_is_line c h = grind (arith, nat_tests)
-
-attributes_line : (attributes : List Attribute) → AllByRecursion IsWritten attributes → list_all is_line (attributes_text attributes) ≡ true
-attributes_line [] h = refl
-attributes_line (a ∷ others) h =
-    let name = weaker_test is_name_byte is_line name_is_line a.0 h.0.name.each in
-    let value = weaker_test is_plain is_line plain_is_line a.1 h.0.value in
-    all_both is_line (attribute_text a) (attributes_text others)
-    (all_both is_line (codes " " ++ a.0 ++ codes "=\"" ++ a.1) (codes "\"") (all_both is_line (codes " " ++ a.0 ++ codes "=\"") a.1
-    (all_both is_line (codes " " ++ a.0) (codes "=\"") name refl) value) refl)
-    (attributes_line others h.1)
-
 -- ---- a path
-
-attribute_is_written : (name value : List ℕ) → 0 < length name → list_all is_name_byte name ≡ true → list_all is_plain value ≡ true
-    → IsWritten (name, value)
-attribute_is_written name value some each plain = record { name = record { some = some; each = each }; value = plain }
 
 abbrev AreWritten : List OptionalAttribute → Type 0
 AreWritten optionals = AllByRecursion (λ s. IsWritten (s.name, s.value)) optionals
@@ -125,7 +70,7 @@ stroke_written (Some s) h = (
   ),
 )
 
-path_written : (segs : List Seg) (fill : Option Fill) (stroke : Option Stroke) → ItemInRange (Path segs fill stroke)
+path_written : (segs : List Seg) (fill : Option Fill) (stroke : Option Stroke) → ItemInRange (item.Path segs fill stroke)
     → AllByRecursion IsWritten (path_attributes segs fill stroke)
 path_written segs fill stroke h = (
   attribute_is_written _ _ (lit< tt) refl (data_plain segs h.0),
@@ -153,8 +98,8 @@ optionals_named None (Some s) = named_by _ refl refl refl
 optionals_named (Some f) None = named_by _ refl refl refl
 optionals_named (Some f) (Some s) = named_by _ refl refl refl
 
-path_is : (segs : List Seg) (fill : Option Fill) (stroke : Option Stroke) → ItemInRange (Path segs fill stroke) → FitsItem (Path segs fill stroke)
-    → IsPathElement (path_attributes segs fill stroke) [] (Path segs fill stroke)
+path_is : (segs : List Seg) (fill : Option Fill) (stroke : Option Stroke) → ItemInRange (item.Path segs fill stroke) → FitsItem (item.Path segs fill stroke)
+    → IsPathElement (path_attributes segs fill stroke) [] (item.Path segs fill stroke)
 path_is segs fill stroke h f =
     let named = optionals_named fill stroke in
     record {
@@ -176,28 +121,41 @@ path_is segs fill stroke h f =
 tag_parts : (attributes items close : List ℕ) → ((attributes ++ codes "/>\n") ++ items) ++ close ≡ attributes ++ 47 ∷ 62 ∷ 10 ∷ (items ++ close)
 tag_parts attributes items close = simp append_assoc
 
-pub items_mean : (items : List Item) → AllByRecursion FitsItem items → AllByRecursion ItemInRange items → AllByRecursion IsPath items
+label_parts : (attributes content items close : List ℕ)
+    → (((((codes "<text" ++ attributes) ++ codes ">") ++ content) ++ codes "</text>\n") ++ items) ++ close
+    ≡ codes "<text" ++ (attributes ++ 62 ∷ (content ++ (codes "</text>" ++ 10 ∷ (items ++ close))))
+label_parts attributes content items close = simp append_assoc
+
+pub items_mean : (items : List Item) → AllByRecursion FitsItem items → AllByRecursion ItemInRange items
     → Content 0 [] (10 ∷ (flat_map item_text items ++ codes "</svg>\n")) items (codes "svg>\n")
-unfolding item_text
-items_mean [] f h p = doc.ends refl
-items_mean (Path segs fill stroke ∷ items) f h p =
+unfolding item_text label_text
+items_mean [] f h = doc.ends refl
+items_mean (item.Path segs fill stroke ∷ items) f h =
     let attributes = path_attributes segs fill stroke in
     let parts = tag_parts (attributes_text attributes) (flat_map item_text items) (codes "</svg>\n") in
     doc.path {tag = attributes_text attributes ++ 47 ∷ 62 ∷ 10 ∷ (flat_map item_text items ++ codes "</svg>\n")}
     (ap (λ (w : List ℕ). codes "<path" ++ w) parts)
     (attributes_back attributes _ (path_written segs fill stroke h.0) refl (_, inr refl))
-    (path_is segs fill stroke h.0 f.0) (items_mean items f.1 h.1 p.1)
-items_mean (Label label ∷ items) f h p = absurd p.0
+    (path_is segs fill stroke h.0 f.0) (items_mean items f.1 h.1)
+items_mean (item.Label label ∷ items) f h =
+    let attributes = label_attributes label in
+    let behind = 10 ∷ (flat_map item_text items ++ codes "</svg>\n") in
+    let inside = content_text label.text ++ (codes "</text>" ++ behind) in
+    let parts = label_parts (attributes_text attributes) (content_text label.text) (flat_map item_text items) (codes "</svg>\n") in
+    doc.text {tag = attributes_text attributes ++ 62 ∷ inside} {inside = inside} {content = content_text label.text} {more = behind} parts
+    (attributes_back attributes (62 ∷ inside) (label_written label h.0) refl (_, inl refl)) refl (content_inside label.text)
+    (label_is label h.0 f.0) (items_mean items f.1 h.1)
 
-items_line : (items : List Item) → AllByRecursion ItemInRange items → list_all is_line (flat_map item_text items) ≡ true
+items_clean : (items : List Item) → AllByRecursion FitsItem items → AllByRecursion ItemInRange items → IsClean (flat_map item_text items)
 unfolding item_text
-items_line [] h = refl
-items_line (Path segs fill stroke ∷ items) h =
+items_clean [] f h = clean_line [] refl
+items_clean (item.Path segs fill stroke ∷ items) f h =
     let attributes = path_attributes segs fill stroke in
-    all_both is_line (codes "<path" ++ attributes_text attributes ++ codes "/>\n") (flat_map item_text items)
-    (all_both is_line (codes "<path" ++ attributes_text attributes) (codes "/>\n") (attributes_line attributes (path_written segs fill stroke
-    h.0)) refl) (items_line items h.1)
-items_line (Label label ∷ items) h = items_line items h.1
+    clean_both (codes "<path" ++ attributes_text attributes ++ codes "/>\n") (flat_map item_text items)
+    (clean_line (codes "<path" ++ attributes_text attributes ++ codes "/>\n") (all_both is_line (codes "<path" ++ attributes_text attributes)
+    (codes "/>\n") (attributes_line attributes (path_written segs fill stroke h.0)) refl)) (items_clean items f.1 h.1)
+items_clean (item.Label label ∷ items) f h =
+    clean_both (label_text label) (flat_map item_text items) (label_clean label h.0 f.0) (items_clean items f.1 h.1)
 
 -- ---- the outermost element
 
@@ -289,36 +247,26 @@ svg_is d f s = record {
 
 -- ---- the document
 
-document_line : (d : Drawing) → Fits d → IsScaled d.size → AllByRecursion ItemInRange d.items → list_all is_line (document_text d) ≡ true
+document_clean : (d : Drawing) → Fits d → IsScaled d.size → AllByRecursion ItemInRange d.items → IsClean (document_text d)
 unfolding document_text svg_text
-document_line d f s h =
-    all_both is_line (declaration ++ codes "\n" ++ svg_text d ++ flat_map item_text d.items) (codes "</svg>\n")
-    (all_both is_line (declaration ++ codes "\n" ++ svg_text d) (flat_map item_text d.items)
-    (all_both is_line (declaration ++ codes "\n") (svg_text d) refl
-    (all_both is_line (codes "<svg" ++ attributes_text (svg_attributes d)) (codes ">\n") (attributes_line (svg_attributes d) (svg_written d f s))
-    refl))
-    (items_line d.items h)) refl
-
-line_is_ascii : (c : ℕ) → is_line c ≡ true → c < 128
-line_is_ascii c h = grind (arith, nat_tests)
-
-line_is_xml : (c : ℕ) → is_line c ≡ true → is_xml_char c ≡ true
-line_is_xml c h = grind (arith, nat_tests)
-
-lines_are_ascii : (bytes : List ℕ) → list_all is_line bytes ≡ true → IsAscii bytes
-lines_are_ascii bytes h = IsAscii-from_all bytes (λ k e lt. line_is_ascii _ (AllPass-from_list_all is_line bytes h k e lt))
+document_clean d f s h =
+    let start = declaration ++ codes "\n" ++ (codes "<svg" ++ attributes_text (svg_attributes d) ++ codes ">\n") in
+    let line : list_all is_line start ≡ true = all_both is_line (declaration ++ codes "\n") (codes "<svg" ++ attributes_text (svg_attributes d)
+    ++ codes ">\n") refl (all_both is_line (codes "<svg" ++ attributes_text (svg_attributes d)) (codes ">\n")
+    (attributes_line (svg_attributes d) (svg_written d f s)) refl) in
+    clean_both (start ++ flat_map item_text d.items) (codes "</svg>\n")
+    (clean_both start (flat_map item_text d.items) (clean_line start line) (items_clean d.items f.items h)) (clean_line (codes "</svg>\n") refl)
 
 document_parts : (attributes items : List ℕ)
     → (((declaration ++ codes "\n") ++ (codes "<svg" ++ attributes ++ codes ">\n")) ++ items) ++ codes "</svg>\n" ≡ declaration ++ 10 ∷ 60 ∷ 115 ∷ 118
     ∷ 103 ∷ (attributes ++ 62 ∷ 10 ∷ (items ++ codes "</svg>\n"))
 document_parts attributes items = simp append_assoc
 
-pub document_means : (d : Drawing) → Fits d → IsScaled d.size → AllByRecursion ItemInRange d.items → AllByRecursion IsPath d.items
+pub document_means : (d : Drawing) → Fits d → IsScaled d.size → AllByRecursion ItemInRange d.items
     → IsDocument (document_text d) d
 unfolding document_text svg_text
-document_means d f s h p =
-    let lines = document_line d f s h in
-    let ascii = lines_are_ascii (document_text d) lines in
+document_means d f s h =
+    let clean = document_clean d f s h in
     record {
       start = 10 ∷ 60 ∷ 115 ∷ 118 ∷ 103 ∷ (attributes_text (svg_attributes d) ++ 62 ∷ 10 ∷ (flat_map item_text d.items ++ codes "</svg>\n"));
       tag = attributes_text (svg_attributes d) ++ 62 ∷ 10 ∷ (flat_map item_text d.items ++ codes "</svg>\n");
@@ -326,13 +274,12 @@ document_means d f s h p =
       close = codes "svg>\n";
       last = codes "\n";
       attributes = svg_attributes d;
-      text = IsUtf8-from_ascii (document_text d) ascii;
-      allowed =
-          ap (list_all is_xml_char) (chars-IsAscii (document_text d) ascii) ∙ weaker_test is_line is_xml_char line_is_xml (document_text d) lines;
+      text = clean.utf8;
+      allowed = clean.allowed;
       declared = document_parts (attributes_text (svg_attributes d)) (flat_map item_text d.items);
       opens = refl;
       has = attributes_back (svg_attributes d) _ (svg_written d f s) refl (_, inl refl);
-      items_are = items_mean d.items f.items h p;
+      items_are = items_mean d.items f.items h;
       closes = refl;
       nothing_more = refl;
       means = svg_is d f s;

@@ -1,7 +1,9 @@
 pub mod Document
+pub mod Lines
 pub mod Numbers
+pub mod Optionals
 pub mod Paint
 pub mod PathData
-pub mod Optionals
 pub mod Strokes
+pub mod Texts
 pub mod Writing

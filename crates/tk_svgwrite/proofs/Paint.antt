@@ -48,7 +48,7 @@ byte_back n lt =
 rgb_back : (c : Rgb) → RgbInRange c → rgb_of (rgb_text c) ≡ Some c
 rgb_back c h = rw (byte_back c.r h.r, byte_back c.g h.g, byte_back c.b h.b) refl
 
-paint_back : (c : Rgb) → RgbInRange c → paint_of (rgb_text c) ≡ Some (Some c)
+pub paint_back : (c : Rgb) → RgbInRange c → paint_of (rgb_text c) ≡ Some (Some c)
 unfolding paint_of
 paint_back c h = rw (rgb_back c h) refl
 
@@ -72,7 +72,7 @@ rgb_plain c h =
 
 -- ---- words
 
-rule_back : (r : Rule) → rule_of (rule_text r) ≡ Some r
+pub rule_back : (r : Rule) → rule_of (rule_text r) ≡ Some r
 unfolding rule_of
 rule_back NonZero = refl
 rule_back EvenOdd = refl
@@ -163,7 +163,7 @@ dash_plain (x ∷ xs) h = numbers_plain (x ∷ xs) (all_fit (x ∷ xs) h)
 
 -- ---- a fill
 
-fill_from : (a : List Attribute) (paint rule : List ℕ) (p : Option Rgb) (r : Rule) → value_or_initial a (codes "fill") (codes "#000000") ≡ paint
+pub fill_from : (a : List Attribute) (paint rule : List ℕ) (p : Option Rgb) (r : Rule) → value_or_initial a (codes "fill") (codes "#000000") ≡ paint
     → value_or_initial a (codes "fill-rule") (codes "nonzero") ≡ rule → paint_of paint ≡ Some p → rule_of rule ≡ Some r
     → fill_of a ≡ Some (option_map (λ rgb. record { rgb = rgb; rule = r }) p)
 unfolding fill_of
@@ -287,3 +287,18 @@ stroke_means data_text fill (Some s) h f =
         let width : true ≡ int_le (pos 0) s.width = omega (arith, ints, f.0) in
         let miter : true ≡ int_le (pos 65536) s.miter = omega (arith, ints, f.1) in
         (sym width, sym miter)
+
+-- without attributes nothing is drawn
+pub nothing_drawn : stroke_of [] ≡ Some None
+nothing_drawn =
+    stroke_from None (pos 65536) cap.Butt join.Miter (pos 262144) [] (pos 0)
+    (record {
+      paint_given = refl;
+      width_given = refl;
+      cap_given = refl;
+      join_given = refl;
+      miter_given = refl;
+      dash_given = refl;
+      phase_given = refl;
+    })
+    none_paint initial_width (cap_back cap.Butt) (join_back join.Miter) initial_miter initial_dash initial_phase

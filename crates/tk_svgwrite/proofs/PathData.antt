@@ -30,7 +30,7 @@ unsigned_abs-neg (negsuc n) = refl
 pub scaled_fits : (z : ℤ) → IsScaled z → FitsBox z
 scaled_fits z h = omega (arith, h)
 
-neg_fits : (z : ℤ) → IsScaled z → FitsBox (neg_ℤ z)
+pub neg_fits : (z : ℤ) → IsScaled z → FitsBox (neg_ℤ z)
 neg_fits z h = omega (arith, h, unsigned_abs-neg z)
 
 one_fits : (p : Point) → PointInRange p → AllByRecursion FitsBox (numbers_of_point p)

@@ -15,6 +15,7 @@ use Rattle.tk_item.specs.declared.Fill.{Fill}
 use Rattle.tk_item.specs.declared.Stroke.{Stroke}
 use Rattle.tk_item.specs.declared.Item.{Item}
 use Rattle.tk_item.specs.declared.Item.TheVariants.{Path}
+use Rattle.tk_item.specs.declared.Label.{Label}
 use Rattle.tk_item.specs.declared.Drawing.{Drawing}
 use Rattle.tk_item.specs.declared.Frame.{Frame}
 use Rattle.tk_svg.specs.Document.{declaration}
@@ -22,6 +23,8 @@ use Rattle.tk_svgwrite.specs.Values.{attribute_text, attributes_text, OptionalAt
 use Rattle.tk_svgwrite.specs.Plain.{fill_attributes, stroke_attributes, item_text, frame_width, frame_height}
 use Rattle.tk_svgwrite.specs.Values.{join_text, dash_text, data_text}
 use Rattle.tk_svgwrite.specs.Plain.{points_text, box_text, svg_text, document_text}
+use Rattle.tk_svgwrite.specs.Values.{matrix_text, content_text}
+use Rattle.tk_svgwrite.specs.Plain.{matrix_of, placing_attributes, label_attributes, label_text}
 use Rattle.tk_svgwrite.specs.Presentations.{presentation_text}
 use Rattle.tk_svgwrite.proofs.Paint.{all_fit, dash_no_none}
 
@@ -226,6 +229,48 @@ pen_parts before o1 o2 o3 o4 o5 o6 s colour ends joins e f g h1 h2 h3 h4 h5 h6 =
     let h3 = h3 ∙ ap (λ (w : List ℕ). o2 ++ optionals_text (optional (codes "stroke-linecap") (codes "butt") w ∷ [])) f in
     let h4 = h4 ∙ ap (λ (w : List ℕ). o3 ++ optionals_text (optional (codes "stroke-linejoin") (codes "miter") w ∷ [])) g in
     seven_attributes before o1 o2 o3 o4 o5 o6 _ _ _ _ _ _ _ h1 h2 h3 h4 h5 h6
+
+-- ---- a label
+
+pub label_parts : (before o1 o2 o3 o4 o5 all colour : List ℕ) (label : Label) → colour ≡ rgb_text label.rgb
+    → o1 ≡ before ++ codes "<text"
+    → o2 ≡ o1 ++ attributes_text (placing_attributes label)
+    → o3 ≡ o2 ++ optionals_text (optional (codes "fill") (codes "#000000") colour ∷ [])
+    → o4 ≡ o3 ++ codes " xml:space=\"preserve\">"
+    → o5 ≡ o4 ++ content_text label.text
+    → all ≡ o5 ++ codes "</text>\n"
+    → all ≡ before ++ label_text label
+unfolding label_text
+label_parts before o1 o2 o3 o4 o5 all colour label c h1 h2 h3 h4 h5 h6 =
+    let fill : OptionalAttribute = optional (codes "fill") (codes "#000000") (rgb_text label.rgb) in
+    let space : Attribute = (codes "xml:space", codes "preserve") in
+    let placed = attributes_text (placing_attributes label) in
+    let filled = h3 ∙ ap (λ (w : List ℕ). o2 ++ optionals_text (optional (codes "fill") (codes "#000000") w ∷ [])) c in
+    let attributes : attributes_text (label_attributes label) ≡ (placed ++ optionals_text (fill ∷ [])) ++ attributes_text (space ∷ []) =
+    flat_map-append attribute_text (placing_attributes label ++ differing (fill ∷ [])) (space ∷ [])
+    ∙ ap (λ (w : List ℕ). w ++ attributes_text (space ∷ [])) (flat_map-append attribute_text (placing_attributes label) (differing (fill ∷ []))) in
+    h6 ∙ ap (λ (w : List ℕ). w ++ codes "</text>\n") (h5 ∙ ap (λ (w : List ℕ). w ++ content_text label.text) (h4
+    ∙ ap (λ (w : List ℕ). w ++ codes " xml:space=\"preserve\">") (filled ∙ ap (λ (w : List ℕ). w ++ optionals_text (fill ∷ [])) (h2
+    ∙ ap (λ (w : List ℕ). w ++ placed) h1))))
+    ∙ label_shape before (codes "<text") placed (optionals_text (fill ∷ [])) (attribute_text space) (codes ">") (content_text label.text)
+    (codes "</text>\n")
+    ∙ ap (λ (w : List ℕ). before ++ (codes "<text" ++ w ++ codes ">" ++ content_text label.text ++ codes "</text>\n")) (sym attributes)
+  where
+    label_shape : (before t p f s g c e : List ℕ)
+        → (((((before ++ t) ++ p) ++ f) ++ (s ++ g)) ++ c) ++ e ≡ before ++ ((((t ++ ((p ++ f) ++ (s ++ []))) ++ g) ++ c) ++ e)
+    label_shape before t p f s g c e = simp (append_assoc, append-nil {A = ℕ})
+
+pub matrix_parts : (before o1 o2 o3 o4 : List ℕ) (numbers : List ℤ) (label : Label)
+    → o1 ≡ before ++ (codes " " ++ codes "transform" ++ codes "=\"") → o2 ≡ o1 ++ codes "matrix(" → o3 ≡ o2 ++ numbers_text numbers
+    → o4 ≡ o3 ++ codes ")" → numbers ≡ matrix_of label → o4 ++ codes "\"" ≡ before ++ attributes_text ((codes "transform", matrix_text (matrix_of label)) ∷ [])
+matrix_parts before o1 o2 o3 o4 numbers label h1 h2 h3 h4 e =
+    ap (λ (w : List ℕ). w ++ codes "\"") (h4 ∙ ap (λ (w : List ℕ). w ++ codes ")") (h3
+    ∙ ap (λ (w : List ℕ). w ++ numbers_text numbers) (h2 ∙ ap (λ (w : List ℕ). w ++ codes "matrix(") h1)))
+    ∙ matrix_shape before (codes " " ++ codes "transform" ++ codes "=\"") (codes "matrix(") (numbers_text numbers) (codes ")") (codes "\"")
+    ∙ ap (λ (w : List ℤ). before ++ attributes_text ((codes "transform", matrix_text w) ∷ [])) e
+  where
+    matrix_shape : (before s m n p q : List ℕ) → ((((before ++ s) ++ m) ++ n) ++ p) ++ q ≡ before ++ (((s ++ (m ++ (n ++ p))) ++ q) ++ [])
+    matrix_shape before s m n p q = simp (append_assoc, append-nil {A = ℕ})
 
 -- ---- the document
 

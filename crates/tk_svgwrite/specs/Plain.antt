@@ -1,18 +1,21 @@
--- The one document that the writer makes of a drawing: one element a line, and each attribute of a path exactly where
--- its value is not the initial one.
-use Rattle.std.specs.Prelude.{ℕ, List, [], ◌∷◌, ◌++◌, flat_map, codes, Option, Some, None, ℤ, neg_ℤ, ◌-ℤ◌}
+-- The one document that the writer makes of a drawing: one element a line, and each attribute of a path or a label that
+-- has an initial value exactly where its value is another.
+use Rattle.std.specs.Prelude.{ℕ, Bool, ◌&&◌, if◌then◌else◌, List, [], ◌∷◌, ◌++◌, flat_map, codes, Option, Some, None, ℤ, pos, neg_ℤ}
+use Rattle.std.specs.Prelude.{◌-ℤ◌}
+use Rattle.std.specs.Ordering.{int_eq}
 use Rattle.tk_num.specs.Text.{text_of}
 use Rattle.tk_item.specs.declared.Seg.{Seg}
 use Rattle.tk_item.specs.declared.Fill.{Fill}
 use Rattle.tk_item.specs.declared.Stroke.{Stroke}
 use Rattle.tk_item.specs.declared.Item.{Item}
-use Rattle.tk_item.specs.declared.Item.TheVariants.{Path, Label}
+use Rattle.tk_item.specs.declared.Item.TheVariants as item
+use Rattle.tk_item.specs.declared.Label.{Label}
 use Rattle.tk_item.specs.declared.Frame.{Frame}
 use Rattle.tk_item.specs.declared.Drawing.{Drawing}
 use Rattle.tk_svg.specs.Scan.{Attribute}
 use Rattle.tk_svg.specs.Document.{declaration, size_of}
-use Rattle.tk_svgwrite.specs.Values.{attributes_text, OptionalAttribute, optional, differing, numbers_text, data_text, rgb_text}
-use Rattle.tk_svgwrite.specs.Values.{rule_text, cap_text, join_text, dash_text}
+use Rattle.tk_svgwrite.specs.Values.{attributes_text, OptionalAttribute, optional, differing, numbers_text, numbers_of_point}
+use Rattle.tk_svgwrite.specs.Values.{data_text, rgb_text, rule_text, cap_text, join_text, dash_text, matrix_text, content_text}
 
 -- ---- a path
 
@@ -42,11 +45,43 @@ abbrev pub path_attributes : List Seg → Option Fill → Option Stroke → List
 path_attributes segs fill stroke =
     (codes "d", data_text segs) ∷ differing (fill_attributes fill ++ stroke_attributes stroke)
 
--- the line of an item; labels are not written
+-- ---- a label
+
+-- the six numbers of its matrix, with y turned downward
+abbrev pub matrix_of : Label → List ℤ
+matrix_of label = label.a ∷ neg_ℤ label.b ∷ neg_ℤ label.c ∷ label.d ∷ numbers_of_point label.at
+
+-- it is neither turned nor scaled
+abbrev pub is_upright : Label → Bool
+is_upright label =
+    (int_eq label.a (pos 65536) && int_eq label.d (pos 65536)) && (int_eq label.b (pos 0) && int_eq label.c (pos 0))
+
+-- where it stands: at a point where it is upright, else by its matrix
+abbrev pub placing_attributes : Label → List Attribute
+placing_attributes label =
+    if is_upright label
+    then (codes "x", text_of label.at.x) ∷ (codes "y", text_of (neg_ℤ label.at.y)) ∷ []
+    else (codes "transform", matrix_text (matrix_of label)) ∷ []
+
+-- where it stands, its colour where that is not black, and that its spaces count
+abbrev pub label_attributes : Label → List Attribute
+label_attributes label =
+    placing_attributes label
+    ++ differing (optional (codes "fill") (codes "#000000") (rgb_text label.rgb) ∷ [])
+    ++ (codes "xml:space", codes "preserve") ∷ []
+
+-- its line
+unfoldable pub label_text : Label → List ℕ
+label_text label =
+    codes "<text" ++ attributes_text (label_attributes label) ++ codes ">" ++ content_text label.text ++ codes "</text>\n"
+
+-- ---- items
+
+-- the line of an item
 unfoldable pub item_text : Item → List ℕ
-item_text (Path segs fill stroke) =
+item_text (item.Path segs fill stroke) =
     codes "<path" ++ attributes_text (path_attributes segs fill stroke) ++ codes "/>\n"
-item_text (Label label) = []
+item_text (item.Label label) = label_text label
 
 -- ---- the document
 

@@ -1,5 +1,6 @@
 -- Private: only private contracts use this. What the types of a drawing's parts say of its numbers.
 use Rattle.std.specs.Prelude.{◌<◌, Option, Some, None}
+use Rattle.std.specs.Char.{IsScalar}
 use Rattle.std.specs.List.{AllByRecursion}
 use Rattle.tk_num.specs.Number.{IsScaled}
 use Rattle.tk_item.specs.Lengths.{AreDashes}
@@ -10,7 +11,8 @@ use Rattle.tk_item.specs.declared.Rgb.{Rgb}
 use Rattle.tk_item.specs.declared.Fill.{Fill}
 use Rattle.tk_item.specs.declared.Stroke.{Stroke}
 use Rattle.tk_item.specs.declared.Item.{Item}
-use Rattle.tk_item.specs.declared.Item.TheVariants.{Path, Label}
+use Rattle.tk_item.specs.declared.Item.TheVariants as item
+use Rattle.tk_item.specs.declared.Label.{Label}
 
 -- both numbers of a point are scaled ones
 pub record PointInRange (p : Point) : Type 0 where
@@ -49,7 +51,21 @@ abbrev pub StrokeInRange : Option Stroke → Type 0
 StrokeInRange None = Unit {0}
 StrokeInRange (Some stroke) = StrokeNumbersInRange stroke
 
--- a path; labels are not written
+-- the numbers of a label's matrix, but for its point
+pub record MatrixInRange (label : Label) : Type 0 where
+  pub a : IsScaled label.a
+  pub b : IsScaled label.b
+  pub c : IsScaled label.c
+  pub d : IsScaled label.d
+
+-- the numbers of a label are scaled ones, and its text is of characters
+pub record LabelInRange (label : Label) : Type 0 where
+  pub at : PointInRange label.at
+  pub matrix : MatrixInRange label
+  pub colour : RgbInRange label.rgb
+  pub text : AllByRecursion IsScalar label.text
+
+-- a path or a label
 abbrev pub ItemInRange : Item → Type 0
-ItemInRange (Path segs fill stroke) = AllByRecursion PieceInRange segs × FillInRange fill × StrokeInRange stroke
-ItemInRange (Label label) = Unit {0}
+ItemInRange (item.Path segs fill stroke) = AllByRecursion PieceInRange segs × FillInRange fill × StrokeInRange stroke
+ItemInRange (item.Label label) = LabelInRange label

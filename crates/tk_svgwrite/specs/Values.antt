@@ -1,5 +1,7 @@
 -- Attributes and their values, as they are written.
-use Rattle.std.specs.Prelude.{ℕ, ◌+◌, ◌/◌, ◌%◌, nat_lt, if◌then◌else◌, List, [], ◌∷◌, ◌++◌, flat_map, codes, ℤ, neg_ℤ, bytes_eq}
+use Rattle.std.specs.Prelude.{ℕ, ◌+◌, ◌/◌, ◌%◌, ◌==◌, nat_lt, if◌then◌else◌, List, [], ◌∷◌, ◌++◌, flat_map, codes, ℤ, neg_ℤ}
+use Rattle.std.specs.Prelude.{bytes_eq}
+use Rattle.std.specs.Char.{encode_utf8}
 use Rattle.tk_num.specs.Text.{text_of}
 use Rattle.tk_item.specs.declared.Point.{Point}
 use Rattle.tk_item.specs.declared.Seg.{Seg}
@@ -11,6 +13,7 @@ use Rattle.tk_item.specs.declared.Cap.{Cap}
 use Rattle.tk_item.specs.declared.Cap.TheVariants as cap
 use Rattle.tk_item.specs.declared.Join.{Join}
 use Rattle.tk_item.specs.declared.Join.TheVariants as join
+use Rattle.tk_characters.specs.Characters.{ampersand, less, greater}
 use Rattle.tk_svg.specs.Scan.{Attribute}
 
 -- ---- attributes
@@ -97,3 +100,20 @@ join_text join.Bevel = codes "bevel"
 abbrev pub dash_text : List ℤ → List ℕ
 dash_text [] = codes "none"
 dash_text (x ∷ xs) = numbers_text (x ∷ xs)
+
+-- `matrix(`, numbers and `)`: `matrix(0 -1 1 0 2.5 2.5)`
+abbrev pub matrix_text : List ℤ → List ℕ
+matrix_text numbers = codes "matrix(" ++ (numbers_text numbers ++ codes ")")
+
+-- ---- characters
+
+-- a character as it is written: `&`, `<` and `>` by their names, each other one in UTF-8
+abbrev pub escaped : ℕ → List ℕ
+escaped c =
+    if c == ampersand then codes "&amp;" else
+    (if c == less then codes "&lt;" else
+    (if c == greater then codes "&gt;" else encode_utf8 c))
+
+-- the characters of a label: `a<b` is `a&lt;b`
+abbrev pub content_text : List ℕ → List ℕ
+content_text text = flat_map escaped text

@@ -18,6 +18,7 @@ ghost use Rattle.tk_svgwrite.specs.Ranges.{FillInRange, StrokeInRange, StrokeNum
 use crate::attributes::{
     close_attribute, open_attribute, put_dashes, put_optional, put_optional_number,
 };
+use crate::labels::put_label;
 use crate::presentation::Presentation;
 use crate::values::{
     cap_word, join_word, put_data, put_number, put_pair, put_scaled, rgb_digits, rule_word,
@@ -38,7 +39,7 @@ pub(crate) fn put_items(out: &mut Vec<u8>, alloc: Global, items: &[Item]) -> Res
     Ok(())
 }
 
-/// Writes the element of an item. Labels are not written. `presentation` is that of the path before.
+/// Writes the element of an item. `presentation` is that of the path before.
 #[tactic(auto, unfolding(crate::specs::Plain::item_text))]
 fn put_item(
     out: &mut Vec<u8>,
@@ -55,7 +56,7 @@ fn put_item(
             presentation.set(*fill, stroke)?;
             put_path(out, segs.as_slice(), presentation)
         }
-        Item::Label(_) => Ok(()),
+        Item::Label(label) => put_label(out, label),
     }
 }
 

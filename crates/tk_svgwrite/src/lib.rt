@@ -1,7 +1,7 @@
 //! Writes a drawing as an SVG document.
 //!
-//! A drawing has one document: an element a line, and each attribute of a path exactly where its value
-//! is not the initial one, in a fixed order. Lengths are in TeX's points, which are the user units of
+//! A drawing has one document: an element a line, and each attribute that may be left out exactly where its
+//! value is not the initial one, in a fixed order. Lengths are in TeX's points, which are the user units of
 //! the document, with at most five digits after the point. A drawing's y is upward, a document's
 //! downward.
 #![tactic(auto)]
@@ -10,12 +10,13 @@ ghost use Rattle.std.specs.Prelude.{◌≡◌, ◌++◌, IfOk, OnOk};
 ghost use Rattle.std.specs.List.{AllByRecursion};
 ghost use Rattle.tk_num.specs.Number.{IsScaled};
 ghost use Rattle.tk_svg.specs.Document.{IsDocument};
-ghost use Rattle.tk_svg.specs.Fitting.{Fits, IsPath};
+ghost use Rattle.tk_svg.specs.Fitting.{Fits};
 ghost use Rattle.tk_svgwrite.specs.Plain.{document_text};
 ghost use Rattle.tk_svgwrite.specs.Ranges.{ItemInRange};
 
 mod attributes;
 mod elements;
+mod labels;
 mod presentation;
 mod values;
 
@@ -26,11 +27,10 @@ use tk_item::Drawing;
 /// The room that is asked for at first for each item. Where its line is longer, more is asked for.
 const LINE: usize = 64;
 
-/// Writes the SVG document of a drawing of paths, in time linear in its length. The document means
+/// Writes the SVG document of a drawing, in time linear in its length. The document means
 /// this drawing and no other. The only error is want of memory.
 pub fn write_svg(alloc: Global, drawing: &Drawing) -> Result<Vec<u8>, AllocError>
     requires fits { Fits drawing.now }
-    requires paths { AllByRecursion IsPath drawing.now.items }
     ensures text { IfOk result (λ v. v.items ≡ document_text drawing.now) }
     ensures means { IfOk result (λ v. IsDocument v.items drawing.now) }
 {

@@ -12,5 +12,5 @@ returns c =
     record {
       text = text;
       means = subst (λ (w : List ℕ). IsDocument w d) (sym text) (document_means d c.requires.fits c.in_ok-put_document.ensures.size
-          c.in_ok-put_document.ensures.range c.requires.paths);
+          c.in_ok-put_document.ensures.range);
     }
