@@ -110,14 +110,19 @@ module _ (P : ℕ → Type 0) (given : Given) (from : Configuration) where
     point_here gone start w c k h =
         let inside = stream c.picture.units (unread w.text w.at) in
         then_going P {m = full given.budget c.env.macros inside}
-        (record { stands = both_at P (StreamAt P) (λ (r : Stream). c.picture.units ≤ r.units) (full given.budget c.env.macros inside)
-        (full_at P given.budget c.env.macros h.good.env.bodies inside k.text) (full_spends given.budget c.env.macros inside) }) (λ text a.
+        (record {
+          stands = both_at P (StreamAt P) (λ (r : Stream). c.picture.units ≤ r.units) (full given.budget c.env.macros inside)
+              (full_at P given.budget c.env.macros h.good.env.bodies inside k.text) (full_spends given.budget c.env.macros inside);
+        }) (λ text a.
         let g = c.env.graphics in
         then_going P (target_point_at (fault_going P (target_of given.evaluate given.font g.look g.matrix w.at (start_of w.sign start) text.list.rest)
         (target_fine P w.at k.place given.evaluate given.font g.look g.matrix (λ ts l. evaluates w.at ts k.place l) (start_of w.sign start)
-        text.list.rest a.0))) (λ p _. gives P _ (tt, record {
-          end = h.end;
-          units = (let b = a.1 in let u = h.units in omega arith);
-          work = (let b = a.1 in let u = h.work in omega arith);
-          good = record { env = h.good.env; rest = h.good.rest; end = h.good.end };
-        })))
+        text.list.rest a.0))) (λ p _. gives P _ (
+          tt,
+          record {
+            end = h.end;
+            units = (let b = a.1 in let u = h.units in omega arith);
+            work = (let b = a.1 in let u = h.work in omega arith);
+            good = record { env = h.good.env; rest = h.good.rest; end = h.good.end };
+          },
+        )))

@@ -93,12 +93,15 @@ module _ (P : ℕ → Type 0) (given : Given) where
           good = record { env = l h.good.env; rest = k.1.good.rest; end = k.1.good.end };
         } in
         then_going P (keys_here P given begin evaluates from gone at list.value (with_env inside list.behind) p k.0 there) (λ e m.
-        gives P _ (tt, record {
-          end = m.end;
-          units = m.units;
-          work = m.work;
-          good = record { env = h.good.env; rest = m.good.rest; end = m.good.end };
-        }))))
+        gives P _ (
+          tt,
+          record {
+            end = m.end;
+            units = m.units;
+            work = m.work;
+            good = record { env = h.good.env; rest = m.good.rest; end = m.good.end };
+          },
+        ))))
 
     pub measures_here : (gone : ℕ) (first : Lookahead) → Taken P given from gone first
         → Going P (HereWith P given from AnyValue gone) (measures_from given first)

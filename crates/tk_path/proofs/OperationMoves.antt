@@ -177,14 +177,19 @@ module _ (P : ℕ → Type 0) (given : Given) (begin : P 0) (evaluates : Evaluat
       then_going P (closed_here P given from gone at c p h) (λ written w.
       let inside = stream c.picture.units (unread written.front at) in
       then_going P {m = full given.budget c.env.macros inside}
-      (record { stands = both_at P (StreamAt P) (λ (r : Stream). c.picture.units ≤ r.units) (full given.budget c.env.macros inside)
-      (full_at P given.budget c.env.macros h.good.env.bodies inside w.places.0) (full_spends given.budget c.env.macros inside) }) (λ text k.
-      gives P _ (k.0, record {
-        end = h.end;
-        units = (let a = h.units in let b = k.1 in omega arith);
-        work = (let u = h.work in let a = w.short in let b = k.1 in omega arith);
-        good = record { env = h.good.env; rest = w.places.1; end = h.good.end };
-      })))
+      (record {
+        stands = both_at P (StreamAt P) (λ (r : Stream). c.picture.units ≤ r.units) (full given.budget c.env.macros inside)
+            (full_at P given.budget c.env.macros h.good.env.bodies inside w.places.0) (full_spends given.budget c.env.macros inside);
+      }) (λ text k.
+      gives P _ (
+        k.0,
+        record {
+          end = h.end;
+          units = (let a = h.units in let b = k.1 in omega arith);
+          work = (let u = h.work in let a = w.short in let b = k.1 in omega arith);
+          good = record { env = h.good.env; rest = w.places.1; end = h.good.end };
+        },
+      )))
 
   circle_with_here : (gone at : ℕ) (m : Measures) (c : Configuration) → P at → To gone c → Going P (To gone) (circle_with at m c)
   unfolding circle_with
@@ -249,8 +254,10 @@ module _ (P : ℕ → Type 0) (given : Given) (begin : P 0) (evaluates : Evaluat
   unfolding mesh_drawn
   mesh_at origin mesh end at units path p =
       then_going P {Q = λ (g : Grid). units ≤ g.units}
-      {m = grid_pieces mesh.matrix (current_point origin path) end.point mesh.xstep mesh.ystep given.budget at units} (record { stands = grid_stands P at p mesh.matrix (current_point origin path) end.point mesh.xstep
-      mesh.ystep given.budget units }) (λ grid k. gives P _ k)
+      {m = grid_pieces mesh.matrix (current_point origin path) end.point mesh.xstep mesh.ystep given.budget at units} (record {
+        stands = grid_stands P at p mesh.matrix (current_point origin path) end.point mesh.xstep
+            mesh.ystep given.budget units;
+      }) (λ grid k. gives P _ k)
 
   grid_to_here : (gone at : ℕ) (m : Measures) (end : Goal) (c : Configuration) → P at → To gone c
       → Going P (To gone) (grid_to given.budget at m end c)

@@ -64,7 +64,7 @@ module _ (P : ℕ → Type 0) (given : Given) (begin : P 0) (evaluates : Evaluat
   on_here gone m h = then_going P h (λ d a. gives P _ a)
 
   module _ (rec : Stretch → Answer Configuration)
-    (moves : (gone : ℕ) (s : Stretch) → Here P given from gone s.start → Going P (Here P given from gone) (rec s)) where
+      (moves : (gone : ℕ) (s : Stretch) → Here P given from gone s.start → Going P (Here P given from gone) (rec s)) where
     group_here : (gone at : ℕ) (c : Configuration) → P at → Here P given from gone c → Going P (Here P given from gone) (path_group given rec at c)
     unfolding path_group
     group_here gone at c p h =

@@ -78,8 +78,10 @@ module _ (P : ℕ → Type 0) (given : Given) (from : Configuration) where
   unfolding token_ahead
   token_here gone c h =
       then_going P {m = next given.budget c.env.macros (stream_at c)}
-      (record { stands = both_at P (NextAt P) (Takes given.budget (stream_at c)) (next given.budget c.env.macros (stream_at c))
-      (next_at P given.budget c.env.macros h.good.env.bodies (stream_at c) h.good.rest) (next_takes given.budget c.env.macros (stream_at c)) })
+      (record {
+        stands = both_at P (NextAt P) (Takes given.budget (stream_at c)) (next given.budget c.env.macros (stream_at c))
+            (next_at P given.budget c.env.macros h.good.env.bodies (stream_at c) h.good.rest) (next_takes given.budget c.env.macros (stream_at c));
+      })
       (λ n k. gives P _ (taken_here gone c n h k))
 
   -- the next token that is no Space
@@ -87,9 +89,11 @@ module _ (P : ℕ → Type 0) (given : Given) (from : Configuration) where
   unfolding ahead_of
   solid_here gone c h =
       then_going P {m = next_solid given.budget c.env.macros (stream_at c)}
-      (record { stands = both_at P (NextAt P) (Takes given.budget (stream_at c)) (next_solid given.budget c.env.macros (stream_at c))
-      (next_solid_at P given.budget c.env.macros h.good.env.bodies (stream_at c) h.good.rest)
-      (next_solid_takes given.budget c.env.macros (stream_at c)) })
+      (record {
+        stands = both_at P (NextAt P) (Takes given.budget (stream_at c)) (next_solid given.budget c.env.macros (stream_at c))
+            (next_solid_at P given.budget c.env.macros h.good.env.bodies (stream_at c) h.good.rest)
+            (next_solid_takes given.budget c.env.macros (stream_at c));
+      })
       (λ n k. gives P _ (taken_here gone c n h k))
 
   must_here : (gone : ℕ) (wanted : Kind → Bool) (token : Option Tok) (d : Configuration) → Taken gone (lookahead token d)

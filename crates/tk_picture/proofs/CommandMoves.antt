@@ -157,8 +157,10 @@ module _ (P : ℕ → Type 0) (given : Given) (begin : P 0) (values : EvaluatesA
           gives P _ (comes_back P given from gone (configuration c.env c.picture list) (over_list gone c c.env list h h.good.env w)))
       command_here gone Begins_later t opener c p h = record { stands = p }
       command_here gone Begins_other t opener c p h =
-          then_going P {m = one_setting given t (situation_at c) c.list} (record { stands = one_setting_at P given values begin t (situation_at c)
-          c.list p h.good.env (record { rest = h.good.rest; end = h.good.end }) }) (λ set m. set_here gone t.at c set p h m)
+          then_going P {m = one_setting given t (situation_at c) c.list} (record {
+            stands = one_setting_at P given values begin t (situation_at c)
+                c.list p h.good.env (record { rest = h.good.rest; end = h.good.end });
+          }) (λ set m. set_here gone t.at c set p h m)
 
       pub command_at_here : (gone : ℕ) (opener : BlockOpener) (token : Option Tok) (c : Configuration) → P (place_of_opener opener)
           → TokenAt P token → Here P given from gone c → Going P (PartAt gone) (command_at given rec opener token c)
@@ -192,8 +194,10 @@ module _ (P : ℕ → Type 0) (given : Given) (begin : P 0) (values : EvaluatesA
       → Going P (λ (c : Compiled). Unit {0}) (picture_behind given at list)
   unfolding picture_behind
   picture_at at list p h last =
-      then_going P {m = after_name Unbuilt (codes "tikzpicture") list} (record { stands = after_name_within P (length list.rest) list.end Unbuilt
-      (codes "tikzpicture") list (record { short = omega arith; rest = h; same = refl; last = last }) }) (λ inside w.
+      then_going P {m = after_name Unbuilt (codes "tikzpicture") list} (record {
+        stands = after_name_within P (length list.rest) list.end Unbuilt
+            (codes "tikzpicture") list (record { short = omega arith; rest = h; same = refl; last = last });
+      }) (λ inside w.
       then_going P (level_at at (first_env given) p (first_env_at P given begin)) (λ env b.
       let start = configuration env first_picture inside in
       then_going P (styled_commands_here start (commands given) (commands_here start) 0 (codes "every picture") (A_picture at) start p
@@ -203,8 +207,10 @@ module _ (P : ℕ → Type 0) (given : Given) (begin : P 0) (values : EvaluatesA
   pub document_at : (list : Unread) → StandAt P list.rest → P list.end → Going P (λ (c : Compiled). Unit {0}) (document given list)
   unfolding document
   document_at list h last =
-      then_going P {m = next_token Unbuilt (past_spaces list)} (record { stands = token_within P (length list.rest) list.end Unbuilt
-      (past_spaces list) (spaces_within P (length list.rest) list.end list (record { short = omega arith; rest = h; same = refl; last = last })) })
+      then_going P {m = next_token Unbuilt (past_spaces list)} (record {
+        stands = token_within P (length list.rest) list.end Unbuilt
+            (past_spaces list) (spaces_within P (length list.rest) list.end list (record { short = omega arith; rest = h; same = refl; last = last }));
+      })
       (λ first w.
       if_going P (is_word given.names (codes "begin") first.value.kind)
       (picture_at first.value.at first.list w.token w.list.rest w.list.last) (record { stands = w.token }))
