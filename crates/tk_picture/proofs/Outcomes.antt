@@ -155,7 +155,7 @@ module _ (asked : Asked) (source : List ℕ) (f : Fault) where
       (ap (λ (ev : Evaluation). document_of ev asked (length source) ts) (is_evaluated ev i) ∙ e)
       (document_at (IsPlace source) (given_for evaluated asked ts) (first_place source ts l)
       (evaluates_at (IsPlace source) (known_words (words_of ts)) asked.budget) (unread (map (tok_of (words_of ts)) ts) (length source))
-      (by_numbers_places (words_of ts) ts (token_places source ts l)) (end_place source ts l))
+      (by_numbers_places (words_of ts) ts (token_places source ts l)) (end_place source ts l)).stands
 
   answer_place : (ev : Evaluation) → IsEvaluation ev → (tokens : Answer (List Token)) → Lexes source tokens
       → (tokens >>= document_of ev asked (length source)) ≡ Err f → IsPlace source f.at
