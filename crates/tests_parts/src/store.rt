@@ -1,9 +1,13 @@
 //! What no clause says: that the calls succeed with ample memory, and some values worked out by hand.
 
+ghost use Rattle.std.specs.Prelude.{◌≡◌, ◌<◌, length};
+
 use std::alloc::{AllocError, Global};
+use std::marker::Brand;
 use std::mem;
+use std::sync::ledger::{Blank, Ledger};
 use std::test::Fail;
-use tk_store::{Body, Entry, Macro, Need, Run, Store};
+use tk_store::{Body, Entry, Macro, Need, Run, Steps, Store};
 use tk_token::Refusal;
 
 /// A call of a store. A macro is told by its number of arguments, an entry by the number that it runs.
@@ -140,11 +144,21 @@ fn args_of(store: &Store, word: u32) -> Option<u8> {
     Some(store.get_macro(word)?.args)
 }
 
+/// Closes the current level, and counts what is undone in a ledger of its own.
+fn close_counting<L: Ledger>(store: &mut Store, blank: Blank)
+    requires level { 0 < length store.old.outer }
+    requires name { blank.name ≡ L.name }
+    requires parts { blank.parts ≡ L.parts }
+    requires some { 0 < L.parts }
+{
+    store.close::<L>(&mut Steps::new(blank));
+}
+
 /// Makes a call: whether it may be made, and what it asks for is so.
 fn make(alloc: Global, store: &mut Store, call: Call) -> Result<bool, Refusal> {
     match call {
         Call::Open if store.level() < 128 => store.open(),
-        Call::Close if store.level() > 0 => store.close_uncounted(),
+        Call::Close if store.level() > 0 => close_counting::<Brand>(store, Blank::new(1)),
         Call::Open | Call::Close => return Ok(false),
         Call::Set(word, args) => store.set_macro(word, value(alloc, args)?)?,
         Call::SetKey(path, number) => store.set_key(path, entry(number))?,

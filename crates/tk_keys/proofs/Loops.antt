@@ -1,6 +1,6 @@
 -- One turn of a run, as the loops of the code make it.
-use Rattle.std.specs.Prelude.{ℕ, ◌+◌, ◌<◌, ◌≤◌, List, [], ◌∷◌, length, Option, Some, None, Ok}
-use Rattle.std.proofs.Common.{◌≡◌, sym, ap, subst, ◌∙◌}
+use Rattle.std.specs.Prelude.{ℕ, ◌+◌, ◌-◌, ◌*◌, ◌<◌, ◌≤◌, List, [], ◌∷◌, length, Option, Some, None, Ok}
+use Rattle.std.proofs.Common.{◌≡◌, sym, ap, subst, ◌∙◌, arith}
 use Rattle.tk_token.specs.declared.Refusal.{Refusal}
 use Rattle.tk_token.specs.declared.Tok.{Tok}
 use Rattle.tk_token.specs.declared.Code.TheVariants.{MacroArg, NotASetting}
@@ -11,6 +11,8 @@ use Rattle.tk_token.proofs.Answering.{fails_then, fails_as, then_is, known_of}
 use Rattle.tk_expand.specs.Arguments.{argument_of}
 use Rattle.tk_expand.specs.Reading.{Next, taken, next, read}
 use Rattle.tk_expand.specs.Unread.{Unread, unread}
+use Rattle.tk_store.specs.Levels.{Level, opened}
+use Rattle.tk_look.specs.Graphics.{graphics_below}
 use Rattle.tk_expr.specs.Evaluated.{evaluated}
 use Rattle.tk_expr.specs.Evaluates.{Evaluation, IsEvaluation}
 use Rattle.tk_expr.proofs.Evaluations.{is_evaluated}
@@ -23,6 +25,7 @@ use Rattle.tk_keys.specs.Keys.{part}
 use Rattle.tk_keys.specs.Settings.{Ending, Standing, standing, Set, set_behind, Runnable, set, set_alone, one_setting, standing_behind, Some_settings}
 use Rattle.tk_keys.specs.Settings.{set_or_group, setting_of, settings_from, set_keys, group, part_run, parts, runs}
 use Rattle.tk_keys.specs.State.{State, env_of, given_of, stream_of, situation_of, standing_of, ending_of, Pays, Keeps, behind_set}
+use Rattle.tk_keys.specs.State.{Makes, most_undone}
 use Rattle.tk_keys.specs.Views.{effect_of, keys_from, contents_run}
 use Rattle.tk_keys.proofs.DeedPlaces.{TextAt, EffectAt, part_at}
 use Rattle.tk_keys.proofs.Ran.{Any, any_part, any_env, any_evaluates, run_is}
@@ -167,6 +170,48 @@ text_paid old new p dir last deed text is some =
     let t : TextAt Any old.budget old.units new.units (Some text) = subst (λ (o : Option (List Tok)). TextAt Any old.budget old.units new.units o)
     some k.text in
     t.1
+
+-- ---- what is undone in the end
+
+-- the text that a part leaves and the settings that the part made are paid for by its units, or by the part itself
+pub text_covered : (steps : ℕ) (old new : State) (text : List Tok) → Keeps old new → Makes 3 old new
+    → (old.units + length text < new.units) × (new.units ≤ old.budget) → most_undone steps new (length text) ≤ most_undone steps old 1
+text_covered steps old new text kept made paid = omega (arith, kept.budget, made, paid.0, paid.1)
+
+-- how many settings were made at the nearest of some levels
+first_settings : List Level → ℕ
+first_settings [] = 0
+first_settings (l ∷ ls) = l.settings
+
+-- what is set in a group is undone at its end, and the level round it counts what it counted before
+module _ (steps ran closed : ℕ) (old inside behind new : State) (tokens : ℕ) (begun : inside ≡ record old {
+  levels = opened old.levels;
+  graphics = graphics_below old.graphics;
+  saved = old.graphics ∷ old.saved;
+}) where
+  none_yet : inside.levels.top.settings ≡ 0
+  none_yet = ap (λ (s : State). s.levels.top.settings) begun
+
+  same_left : inside.budget - inside.units ≡ old.budget - old.units
+  same_left = ap (λ (s : State). s.budget - s.units) begun
+
+  pub inside_most : ran ≤ most_undone steps inside tokens → ran ≤ most_undone steps old tokens
+  inside_most h = omega (arith, h, none_yet, same_left)
+
+  module _ (kept : Keeps inside behind) (most : most_undone ran behind 0 ≤ most_undone steps inside tokens)
+      (high : closed ≤ ran + behind.levels.top.settings) where
+    pub closed_high : closed ≤ most_undone steps old tokens
+    closed_high = omega (arith, none_yet, same_left, most, high)
+
+    pub closed_most : behind.levels.outer ≡ new.levels.top ∷ new.levels.outer
+        → new ≡ record behind { levels = new.levels; graphics = new.graphics; saved = new.saved }
+        → most_undone closed new 0 ≤ most_undone steps old tokens
+    unfolding first_settings
+    closed_most levels rest =
+        let top : new.levels.top.settings ≡ old.levels.top.settings =
+        ap first_settings (sym levels ∙ kept.outer ∙ ap (λ (s : State). s.levels.outer) begun) in
+        let left : new.budget - new.units ≡ behind.budget - behind.units = ap (λ (s : State). s.budget - s.units) rest in
+        omega (arith, none_yet, same_left, most, high, top, left)
 
 -- ---- for each evaluation
 

@@ -21,13 +21,14 @@ runs_so now new {path} is h = subst (λ (run : Run). SetsKey now new path (runni
 
 -- none is set yet
 pub none_set : (old : Levels) → HasEntries old old []
-none_set old = record { outer = refl; macros = refl; keys = refl }
+none_set old = record { outer = refl; lowest = λ _. refl; macros = refl; keys = refl }
 
 -- those of one table are set behind those of another
 pub both_set : (old now new : Levels) (es fs : List (List ℕ × Entry)) → HasEntries old now es → HasEntries now new fs
     → HasEntries old new (es ++ fs)
 both_set old now new es fs h k = record {
   outer = k.outer ∙ h.outer;
+  lowest = λ none. k.lowest (h.outer ∙ none) ∙ h.lowest none;
   macros = k.macros ∙ h.macros;
   keys = k.keys ∙ ap (λ (keys : Keys). with_entries keys fs) h.keys ∙ sym (entries_behind old.top.keys es fs);
 }
@@ -37,6 +38,7 @@ set_behind : (old now new : Levels) (es : List (List ℕ × Entry)) (e : List �
     → HasEntries old new (es ++ e ∷ [])
 set_behind old now new es e h s = both_set old now new es (e ∷ []) h (record {
   outer = ap (λ (l : Levels). l.outer) s.levels;
+  lowest = s.settings.lowest;
   macros = ap (λ (l : Levels). l.top.macros) s.levels;
   keys = ap (λ (l : Levels). l.top.keys) s.levels;
 })

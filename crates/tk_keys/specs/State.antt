@@ -1,5 +1,5 @@
 -- The state of a run, as the contracts see it.
-use Rattle.std.specs.Prelude.{◌≡◌, ℕ, Bool, true, false, List, [], length, Option, Some, None}
+use Rattle.std.specs.Prelude.{◌≡◌, ℕ, ◌+◌, ◌-◌, ◌*◌, ◌≤◌, Bool, true, false, List, [], length, Option, Some, None}
 use Rattle.tk_look.specs.declared.GraphicsState.{GraphicsState}
 use Rattle.tk_store.specs.Levels.{Levels}
 use Rattle.tk_expand.specs.Unread.{Unread}
@@ -44,6 +44,7 @@ pub record IsFirst (words : List (List ℕ)) (size : FontUnits) (most : ℕ) (s 
   pub budget : s.budget ≡ most
   pub env : (ev : Evaluation) → env_of s ≡ first_env (given_of ev s)
   pub outer : s.levels.outer ≡ []
+  pub settings : s.levels.top.settings ≡ 0
   pub saved : s.saved ≡ []
   pub units : s.units ≡ 0
 
@@ -77,6 +78,15 @@ pub record Keeps (old new : State) : Type 0 where
   pub outer : new.levels.outer ≡ old.levels.outer
   pub saved : new.saved ≡ old.saved
   pub lists : new.lists ≡ old.lists
+
+-- at most so many settings were made at the current level
+abbrev pub Makes : ℕ → State → State → Type 0
+Makes count old new = new.levels.top.settings ≤ old.levels.top.settings + count
+
+-- The most settings that a run can have undone in the end: those that it undid so far, those of the current level, and
+-- three for each unit that can still be paid and for each token that is left. A key that isn't known makes three.
+abbrev pub most_undone : ℕ → State → ℕ → ℕ
+most_undone steps s tokens = steps + s.levels.top.settings + 3 * ((s.budget - s.units) + tokens)
 
 -- what is behind a setting
 abbrev pub behind_set : State → Unread → Set

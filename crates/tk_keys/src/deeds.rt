@@ -13,7 +13,7 @@ ghost use Rattle.tk_expr.specs.Evaluated.{evaluated};
 ghost use Rattle.tk_look.specs.Graphics.{graphics_by};
 ghost use Rattle.tk_keys.specs.Environment as environment;
 ghost use Rattle.tk_keys.specs.Keys as keys;
-ghost use Rattle.tk_keys.specs.State.{given_of, env_of, situation_of, Keeps, Pays};
+ghost use Rattle.tk_keys.specs.State.{given_of, env_of, situation_of, Keeps, Makes, Pays};
 ghost use Rattle.tk_keys.specs.Views.{deed_of, used_of, name_read, expanded_text, paid_by, stored_by};
 
 use crate::State;
@@ -72,6 +72,7 @@ impl State {
     pub(crate) fn set_text(&mut self, word: u32, text: Body) -> Result<(), AllocError>
         ensures set { OnOk result (situation_of self.new ≡ environment.with_text (situation_of self.old) word text) }
         ensures kept { OnOk result (Keeps self.old self.new) }
+        ensures made { OnOk result (Makes 1 self.old self.new) }
         ensures used { OnOk result (self.old.units ≤ self.new.units) }
     {
         self.store.set_macro(
@@ -88,6 +89,7 @@ impl State {
         ensures set { OnOk result (situation_of self.new
             ≡ environment.with_text (situation_of self.old) word (texts.tokens_of at text.now)) }
         ensures kept { OnOk result (Keeps self.old self.new) }
+        ensures made { OnOk result (Makes 1 self.old self.new) }
         ensures used { OnOk result (self.old.units ≤ self.new.units) }
     {
         let text = tokens_of(self.alloc, at, text)?;
@@ -99,6 +101,7 @@ impl State {
         ensures set { OnOk result (situation_of self.new ≡ environment.with_key (situation_of self.old)
             path.now entry) }
         ensures kept { OnOk result (Keeps self.old self.new) }
+        ensures made { OnOk result (Makes 1 self.old self.new) }
         ensures used { OnOk result (self.old.units ≤ self.new.units) }
     {
         self.store.set_key(path, entry)
@@ -166,6 +169,7 @@ impl State {
             (keys.set_native (given_of evaluated self.old) at name.now key (option_copied value.entry)
             (situation_of self.old)) }
         ensures kept { OnOk result (Keeps self.old self.new) }
+        ensures made { OnOk result (Makes 0 self.old self.new) }
         ensures used { OnOk result (self.old.units ≤ self.new.units) }
     {
         let Some(list) = value else {
@@ -190,6 +194,7 @@ impl State {
             (keys.plain_run (given_of evaluated self.old) at name.now run.now (option_copied value.entry)
             (situation_of self.old)) }
         ensures kept { OnOk result (Keeps self.old self.new) }
+        ensures made { OnOk result (Makes 1 self.old self.new) }
         ensures used { OnOk result (self.old.units ≤ self.new.units) }
     {
         match run {
@@ -212,6 +217,7 @@ impl State {
         ensures gives { Gives (λ deed. deed_of deed self.new) result
             (keys.choose (given_of evaluated self.old) at path.now value.now (situation_of self.old)) }
         ensures kept { OnOk result (Keeps self.old self.new) }
+        ensures made { OnOk result (Makes 1 self.old self.new) }
         ensures used { OnOk result (self.old.units ≤ self.new.units) }
     {
         let name = self.expanded_name(Code::UnknownChoice, at, value)?;
@@ -235,6 +241,7 @@ impl State {
             (keys.run_key (given_of evaluated self.old) at path.now name.now run.now (option_copied value.entry)
             (situation_of self.old)) }
         ensures kept { OnOk result (Keeps self.old self.new) }
+        ensures made { OnOk result (Makes 1 self.old self.new) }
         ensures used { OnOk result (self.old.units ≤ self.new.units) }
     {
         match run {
@@ -259,6 +266,7 @@ impl State {
             (option_copied value.entry) (situation_of self.old)) }
         ensures none { IfOk result (λ used. IfNone used (self.new ≡ self.old)) }
         ensures kept { OnOk result (Keeps self.old self.new) }
+        ensures made { OnOk result (Makes 1 self.old self.new) }
         ensures used { OnOk result (self.old.units ≤ self.new.units) }
     {
         if entry.value.is_none() {
@@ -274,6 +282,7 @@ impl State {
         ensures set { OnOk result (situation_of self.new
             ≡ environment.with_key (situation_of self.old) path.now (record entry.now { value = Some value })) }
         ensures kept { OnOk result (Keeps self.old self.new) }
+        ensures made { OnOk result (Makes 1 self.old self.new) }
         ensures used { OnOk result (self.old.units ≤ self.new.units) }
     {
         let entry = entry.copy()?;
@@ -294,6 +303,7 @@ impl State {
             (situation_of self.old)) }
         ensures none { IfOk result (λ used. IfNone used (self.new ≡ self.old)) }
         ensures kept { OnOk result (Keeps self.old self.new) }
+        ensures made { OnOk result (Makes 1 self.old self.new) }
         ensures used { OnOk result (self.old.units ≤ self.new.units) }
     {
         let Some(entry) = self.store.get_key(path) else {
@@ -319,6 +329,7 @@ impl State {
             (option_copied value.entry) (situation_of self.old)) }
         ensures none { IfOk result (λ used. IfNone used (self.new ≡ self.old)) }
         ensures kept { OnOk result (Keeps self.old self.new) }
+        ensures made { OnOk result (Makes 1 self.old self.new) }
         ensures used { OnOk result (self.old.units ≤ self.new.units) }
     {
         match &entry.run {
@@ -340,6 +351,7 @@ impl State {
             (keys.use_by (given_of evaluated self.old) at path.now entry.now (Some run.now) entry.now.value
             (option_copied value.entry) (situation_of self.old)) }
         ensures kept { OnOk result (Keeps self.old self.new) }
+        ensures made { OnOk result (Makes 1 self.old self.new) }
         ensures used { OnOk result (self.old.units ≤ self.new.units) }
     {
         if let (Run::StoreIn(word), Need::Default(body), None) = (run, &entry.need, value) {

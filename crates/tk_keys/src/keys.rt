@@ -8,7 +8,7 @@ ghost use Rattle.tk_keytext.specs.KeyParts.{key_part};
 ghost use Rattle.tk_keytext.specs.Handlers as handlers;
 ghost use Rattle.tk_keytext.specs.Paths as paths;
 ghost use Rattle.tk_keys.specs.Keys as keys;
-ghost use Rattle.tk_keys.specs.State.{given_of, env_of, situation_of, Keeps};
+ghost use Rattle.tk_keys.specs.State.{given_of, env_of, situation_of, Keeps, Makes};
 ghost use Rattle.tk_keys.specs.Views.{deed_of, effect_of, runner_of};
 
 use crate::deeds::{Deed, done};
@@ -38,6 +38,7 @@ impl State {
             (keys.edit (given_of evaluated self.old) at handler path.now (option_copied value.entry)
             (situation_of self.old)) }
         ensures kept { OnOk result (Keeps self.old self.new) }
+        ensures made { OnOk result (Makes 1 self.old self.new) }
         ensures used { OnOk result (self.old.units ≤ self.new.units) }
     {
         let old = self.store.get_key(path);
@@ -78,6 +79,7 @@ impl State {
             (keys.handle (given_of evaluated self.old) at handler path.now (option_copied value.entry) dir.old
             (situation_of self.old)) }
         ensures kept { OnOk result (Keeps self.old self.new) }
+        ensures made { OnOk result (Makes 1 self.old self.new) }
         ensures used { OnOk result (self.old.units ≤ self.new.units) }
     {
         match handler {
@@ -120,6 +122,7 @@ impl State {
         ensures set { OnOk result (situation_of self.new
             ≡ keys.announced (given_of evaluated self.old) at path.now (situation_of self.old)) }
         ensures kept { OnOk result (Keeps self.old self.new) }
+        ensures made { OnOk result (Makes 2 self.old self.new) }
         ensures used { OnOk result (self.old.units ≤ self.new.units) }
     {
         self.set_written(at, self.made.key, path)?;
@@ -132,6 +135,7 @@ impl State {
             (keys.unknown (given_of evaluated self.old) at path.now (option_copied value.entry)
             (situation_of self.old)) }
         ensures kept { OnOk result (Keeps self.old self.new) }
+        ensures made { OnOk result (Makes 3 self.old self.new) }
         ensures used { OnOk result (self.old.units ≤ self.new.units) }
     {
         let Some(other) = self.stand_in(path)? else {
@@ -153,6 +157,7 @@ impl State {
             (keys.handle_or_unknown (given_of evaluated self.old) at (handlers.handler_of (paths.name_in path.now))
             path.now (option_copied value.entry) dir.old (situation_of self.old)) }
         ensures kept { OnOk result (Keeps self.old self.new) }
+        ensures made { OnOk result (Makes 3 self.old self.new) }
         ensures used { OnOk result (self.old.units ≤ self.new.units) }
     {
         match handler_of(name_in(path)) {
@@ -173,6 +178,7 @@ impl State {
             (keys.key (given_of evaluated self.old) at path.now (option_copied value.entry) dir.old
             (situation_of self.old)) }
         ensures kept { OnOk result (Keeps self.old self.new) }
+        ensures made { OnOk result (Makes 3 self.old self.new) }
         ensures used { OnOk result (self.old.units ≤ self.new.units) }
     {
         match self.use_key(at, path, value)? {
@@ -187,6 +193,7 @@ impl State {
         ensures gives { Gives (λ deed. effect_of deed self.new dir.new) result
             (keys.part (given_of evaluated self.old) (key_part part.now) dir.old (situation_of self.old)) }
         ensures kept { OnOk result (Keeps self.old self.new) }
+        ensures made { OnOk result (Makes 3 self.old self.new) }
         ensures used { OnOk result (self.old.units ≤ self.new.units) }
     {
         let name = self.expanded_name(Code::UnknownKey, part.at, part.name)?;

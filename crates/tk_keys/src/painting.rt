@@ -1,21 +1,24 @@
 //! Key lists that are given as texts, and the short way of those that have paths drawn or filled, which run for each
 //! path.
 
-ghost use Rattle.std.specs.Prelude.{◌≡◌, ◌<◌, ℕ, Ok, OnOk, codes, true, false};
+ghost use Rattle.std.specs.Prelude.{◌≡◌, ◌<◌, ◌≤◌, ◌+◌, ◌-◌, ◌*◌, ℕ, length, Ok, OnOk, codes, true, false};
 ghost use Rattle.tk_token.specs.Refusals.{Gives};
 ghost use Rattle.tk_token.specs.Texts as texts;
 ghost use Rattle.tk_expr.specs.Evaluates.{Evaluation, IsEvaluation};
 ghost use Rattle.tk_keys.specs.Painting.{paint_name, unchanged, PaintsAlone, painting};
 ghost use Rattle.tk_keys.specs.Environment.{tikz_path};
 ghost use Rattle.tk_keys.specs.Settings.{A_key_list, runs};
-ghost use Rattle.tk_keys.specs.State.{env_of, given_of, situation_of, ending_of, Keeps};
+ghost use Rattle.tk_keys.specs.State.{env_of, given_of, situation_of, ending_of, Keeps, Makes};
+ghost use Rattle.tk_keytext.specs.Parts.{parts_of};
 
 use crate::runs::MOST_LISTS;
 use crate::{Dir, State};
+use std::marker::Brand;
+use std::sync::ledger::{Blank, Ledger};
 use tk_native::PaintKey::{Draw, Fill};
 use tk_native::{LookKey, Native, PaintKey};
-use tk_store::{Entry, Need, Run};
-use tk_token::{Refusal, tokens_of};
+use tk_store::{Entry, Need, Run, Steps};
+use tk_token::{Refusal, Tok, tokens_of};
 
 impl State {
     /// Runs the key list that is written so, whose tokens all stand at `at`, as its command does, with the default path
@@ -28,12 +31,33 @@ impl State {
             (runs (given_of ev self.old)
             (A_key_list (situation_of self.old) (codes "/tikz") (texts.tokens_of at text.now) at)) }
         ensures kept { OnOk result (Keeps self.old self.new) }
+        ensures made { OnOk result (Makes (3 * (length (parts_of (texts.tokens_of at text.now))
+            + (self.new.units - self.old.units))) self.old self.new) }
     {
         if self.lists < MOST_LISTS && self.run_unchanged(text) {
             return Ok(Dir::tikz());
         }
         let list = tokens_of(self.alloc, at, text)?;
-        self.run_list(Dir::tikz(), &list, at)
+        self.run_list_counting::<Brand>(&list, at, Blank::new(1))
+    }
+
+    /// Runs a key list with the default path /tikz, and counts what is undone in a ledger of its own.
+    fn run_list_counting<L: Ledger>(
+        &mut self,
+        list: &[Tok],
+        at: u32,
+        blank: Blank,
+    ) -> Result<Dir, Refusal>
+        requires name { blank.name ≡ L.name }
+        requires parts { blank.parts ≡ L.parts }
+        requires some { 0 < L.parts }
+        ensures gives { (ev : Evaluation) → IsEvaluation ev → Gives (λ last. ending_of self.new last) result
+            (runs (given_of ev self.old) (A_key_list (situation_of self.old) (codes "/tikz") list.now at)) }
+        ensures kept { OnOk result (Keeps self.old self.new) }
+        ensures made { OnOk result (Makes (3 * (length (parts_of list.now) + (self.new.units - self.old.units)))
+            self.old self.new) }
+    {
+        self.run_list::<L>(Dir::tikz(), list, at, &mut Steps::new(blank))
     }
 
     /// Runs `draw`, `fill` or `draw,fill` without their tokens, where that is the text and they are the keys that are
@@ -45,6 +69,8 @@ impl State {
             (A_key_list (situation_of self.old) (codes "/tikz") (texts.tokens_of at text.now) at)
             ≡ Ok (ending_of self.new (codes "/tikz")) }
         ensures kept { result ≡ true → Keeps self.old self.new }
+        ensures made { result ≡ true → Makes 0 self.old self.new }
+        ensures paid { result ≡ true → self.new.units ≡ self.old.units }
         ensures same { result ≡ false → self.new ≡ self.old }
     {
         match text {
@@ -73,6 +99,8 @@ impl State {
     fn switch_on(&mut self, key: PaintKey)
         ensures set { situation_of self.new ≡ painting key (situation_of self.old) }
         ensures kept { Keeps self.old self.new }
+        ensures made { Makes 0 self.old self.new }
+        ensures paid { self.new.units ≡ self.old.units }
     {
         match key {
             Draw => self.graphics.look.draw_on = true,

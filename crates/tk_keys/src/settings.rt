@@ -14,7 +14,7 @@ ghost use Rattle.tk_keytext.specs.Entries as entries;
 ghost use Rattle.tk_keys.specs.Keys as keys;
 ghost use Rattle.tk_keys.specs.Settings as settings;
 ghost use Rattle.tk_keys.specs.Settings.{whole_text};
-ghost use Rattle.tk_keys.specs.State.{given_of, env_of, situation_of, behind_set, Keeps, Pays};
+ghost use Rattle.tk_keys.specs.State.{given_of, env_of, situation_of, behind_set, Keeps, Makes, Pays};
 ghost use Rattle.tk_keys.specs.Views.{key_of, number_set, value_behind, given_by, situation_by};
 
 use crate::keys::path_from;
@@ -48,6 +48,7 @@ impl State {
         ensures gives { Gives (λ _. behind_set self.new input.new) result
             (settings.define (given_of evaluated self.old) kind (situation_of self.old) input.old) }
         ensures kept { OnOk result (Keeps self.old self.new) }
+        ensures made { OnOk result (Makes 1 self.old self.new) }
         ensures used { OnOk result (self.old.units ≤ self.new.units) }
         ensures end { OnOk result (input.new.end ≡ input.old.end) }
         ensures work { OnOk result ((self.new.budget - self.new.units) + length input.new.rest
@@ -78,6 +79,7 @@ impl State {
         ensures gives { Gives (λ _. behind_set self.new input.new) result
             (settings.set_value (given_of evaluated self.old) at dir.now (situation_of self.old) input.old) }
         ensures kept { OnOk result (Keeps self.old self.new) }
+        ensures made { OnOk result (Makes 1 self.old self.new) }
         ensures used { OnOk result (self.old.units ≤ self.new.units) }
         ensures end { OnOk result (input.new.end ≡ input.old.end) }
         ensures work { OnOk result ((self.new.budget - self.new.units) + length input.new.rest
@@ -94,6 +96,7 @@ impl State {
         ensures set { OnOk result (situation_of self.new
             ≡ settings.with_value (situation_of self.old) path.now text.items) }
         ensures kept { OnOk result (Keeps self.old self.new) }
+        ensures made { OnOk result (Makes 1 self.old self.new) }
         ensures used { OnOk result (self.old.units ≤ self.new.units) }
     {
         let entry = self.with_value(path, Body::from_vec(text)?)?;
@@ -120,6 +123,7 @@ impl State {
         ensures gives { Gives (λ _. behind_set self.new input.new) result
             (settings.get_value (given_of evaluated self.old) at dir.now (situation_of self.old) input.old) }
         ensures kept { OnOk result (Keeps self.old self.new) }
+        ensures made { OnOk result (Makes 1 self.old self.new) }
         ensures used { OnOk result (self.old.units ≤ self.new.units) }
         ensures end { OnOk result (input.new.end ≡ input.old.end) }
         ensures work { OnOk result ((self.new.budget - self.new.units) + length input.new.rest
@@ -187,6 +191,7 @@ impl State {
         ensures gives { Gives (λ _. behind_set self.new input.new) result
             (settings.set_number (given_of evaluated self.old) pointed_text at (situation_of self.old) input.old) }
         ensures kept { OnOk result (Keeps self.old self.new) }
+        ensures made { OnOk result (Makes 1 self.old self.new) }
         ensures used { OnOk result (self.old.units ≤ self.new.units) }
         ensures end { OnOk result (input.new.end ≡ input.old.end) }
         ensures work { OnOk result ((self.new.budget - self.new.units) + length input.new.rest
@@ -202,6 +207,7 @@ impl State {
         ensures gives { Gives (λ _. behind_set self.new input.new) result
             (settings.set_number (given_of evaluated self.old) whole_text at (situation_of self.old) input.old) }
         ensures kept { OnOk result (Keeps self.old self.new) }
+        ensures made { OnOk result (Makes 1 self.old self.new) }
         ensures used { OnOk result (self.old.units ≤ self.new.units) }
         ensures end { OnOk result (input.new.end ≡ input.old.end) }
         ensures work { OnOk result ((self.new.budget - self.new.units) + length input.new.rest

@@ -257,21 +257,6 @@ impl State {
         restore(&mut self.saved, &mut self.graphics);
     }
 
-    /// Closes the current level and counts no steps. This takes no memory.
-    pub fn close_uncounted(&mut self)
-        requires { 0 < length self.old.levels.outer }
-        ensures levels { self.old.levels.outer ≡ self.new.levels.top ∷ self.new.levels.outer }
-        ensures saved { self.old.saved ≡ self.new.graphics ∷ self.new.saved }
-        ensures kept { self.new ≡ record self.old {
-          levels = self.new.levels;
-          graphics = self.new.graphics;
-          saved = self.new.saved;
-        } }
-    {
-        self.store.close_uncounted();
-        restore(&mut self.saved, &mut self.graphics);
-    }
-
     /// Sets whether what follows is drawn and filled. This takes no memory.
     pub fn set_paint(&mut self, draw: bool, fill: bool)
         ensures { self.new ≡ record self.old {

@@ -1,3 +1,4 @@
+pub mod PartCounts
 pub mod Pieces
 pub mod Slashes
 pub mod Styles

@@ -1,6 +1,6 @@
 //! Key lists in pictures, and styles that run by themselves.
 
-ghost use Rattle.std.specs.Prelude.{◌≡◌, OnOk, is_some};
+ghost use Rattle.std.specs.Prelude.{◌≡◌, ◌<◌, OnOk, is_some};
 ghost use Rattle.tk_characters.specs.Characters.{right_bracket};
 ghost use Rattle.tk_token.specs.declared.Code.TheVariants.{PathSyntax};
 ghost use Rattle.tk_token.specs.Answers.{or_fault};
@@ -18,8 +18,11 @@ ghost use Rattle.tk_path.specs.Views.{style_name, configuration_of, lookahead_of
 
 use crate::drawer::Drawer;
 use std::alloc::AllocError;
+use std::marker::Brand;
+use std::sync::ledger::{Blank, Ledger};
 use tk_expand::{Input, is_there};
 use tk_keys::Dir;
+use tk_store::Steps;
 use tk_token::{Code, Refusal, Tok};
 
 /// The styles that run by themselves.
@@ -63,8 +66,28 @@ impl Drawer {
             (keys.with_keys (given_of ev self.old.state) at list.now (configuration_of self.old path rest)) }
         ensures kept { OnOk result (KeepsDrawn self.old self.new) }
     {
+        self.run_keys_counting::<Brand>(list, at, Blank::new(1))
+    }
+
+    /// The same, which counts what is undone in a ledger of its own.
+    #[tactic(auto, unfolding(crate::specs::Keys::with_keys))]
+    fn run_keys_counting<L: Ledger>(
+        &mut self,
+        list: &[Tok],
+        at: u32,
+        blank: Blank,
+    ) -> Result<(), Refusal>
+        requires name { blank.name ≡ L.name }
+        requires parts { blank.parts ≡ L.parts }
+        requires some { 0 < L.parts }
+        ensures gives { (ev : Evaluation) → IsEvaluation ev → (path : ACurrentPath) (rest : Unread)
+            → Gives (λ _. configuration_of self.new path rest) result
+            (keys.with_keys (given_of ev self.old.state) at list.now (configuration_of self.old path rest)) }
+        ensures kept { OnOk result (KeepsDrawn self.old self.new) }
+    {
         let dir = Dir::new(self.state.allocator(), "/tikz")?;
-        self.state.run_list(dir, list, at)?;
+        self.state
+            .run_list::<L>(dir, list, at, &mut Steps::new(blank))?;
         Ok(())
     }
 

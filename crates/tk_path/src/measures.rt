@@ -11,6 +11,7 @@ ghost use Rattle.tk_path.specs.CurrentPaths.{CurrentPath as ACurrentPath};
 ghost use Rattle.tk_path.specs.Measures as spec;
 ghost use Rattle.tk_path.specs.Views.{given_to, configuration_of, lookahead_of, reached_at, KeepsDrawn};
 
+use crate::closing::close_level;
 use crate::current_path::Mesh;
 use crate::drawer::Drawer;
 use crate::keys::option_list;
@@ -240,7 +241,7 @@ impl Drawer {
         self.state.open(at)?;
         self.run_keys(&list, at)?;
         let measures = Measures::of(self.state.graphics());
-        self.state.close_uncounted();
+        close_level(&mut self.state);
         Ok(measures)
     }
 }

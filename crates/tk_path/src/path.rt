@@ -11,6 +11,7 @@ ghost use Rattle.tk_path.specs.Paths as paths;
 ghost use Rattle.tk_path.specs.Paths.{stretch};
 ghost use Rattle.tk_path.specs.Views.{given_to, configuration_of, lookahead_of, path_flow_of, IsSound, KeepsDrawn};
 
+use crate::closing::close_level;
 use crate::current_path::CurrentPath;
 use crate::drawer::{Drawer, Flow};
 use crate::targets::begins_coordinate;
@@ -143,7 +144,7 @@ impl Drawer {
     {
         self.state.open(at)?;
         self.operations(input, path, PathOpener::Group)?;
-        self.state.close_uncounted();
+        close_level(&mut self.state);
         Ok(())
     }
 

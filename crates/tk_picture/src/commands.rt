@@ -15,8 +15,11 @@ ghost use Rattle.tk_picture.specs.Beginnings.{plain, path_begun, whole_path};
 ghost use Rattle.tk_picture.specs.Views.{place_of_run, progress_of, flow_of, opener_of, begun_of};
 
 use crate::unbuilt;
+use std::marker::Brand;
+use std::sync::ledger::{Blank, Ledger};
 use tk_expand::Input;
-use tk_path::{Drawer, Flow, Style};
+use tk_path::{Drawer, Flow, Style, close_level};
+use tk_store::Steps;
 use tk_token::{Code, Fault, Kind, Refusal, Tok};
 
 /// What commands stand in, with its place.
@@ -150,7 +153,7 @@ fn scope(drawer: &mut Drawer, input: &mut Input, first: Tok) -> Result<Flow, Ref
         Style::EveryScope,
         BlockOpener::Scope(first.at),
     )?;
-    drawer.state.close_uncounted();
+    close_level(&mut drawer.state);
     Ok(Flow::GoesOn)
 }
 
@@ -195,7 +198,7 @@ fn group(drawer: &mut Drawer, input: &mut Input, first: Tok) -> Result<Flow, Ref
 {
     drawer.state.open(first.at)?;
     commands(drawer, input, BlockOpener::Group(first.at))?;
-    drawer.state.close_uncounted();
+    close_level(&mut drawer.state);
     Ok(Flow::GoesOn)
 }
 
@@ -215,7 +218,7 @@ fn draw_path(
 {
     drawer.state.open(first.at)?;
     whole_path(drawer, input, keys, first.at)?;
-    drawer.state.close_uncounted();
+    close_level(&mut drawer.state);
     Ok(Flow::GoesOn)
 }
 
@@ -253,7 +256,6 @@ fn unpaint(drawer: &mut Drawer)
 }
 
 /// Runs the setting that begins with a token which was taken; nothing else is a command.
-#[tactic(auto, using(tk_expr::proofs::Runs::evaluated_is_the_answer))]
 fn set(drawer: &mut Drawer, input: &mut Input, first: Tok) -> Result<Flow, Refusal>
     requires sound { IsSound drawer.old }
     ensures gives { (opener : AnOpener) → Gives (flow_of drawer.new input.new) result
@@ -262,7 +264,31 @@ fn set(drawer: &mut Drawer, input: &mut Input, first: Tok) -> Result<Flow, Refus
     ensures sound { OnOk result (IsSound drawer.new) }
     ensures kept { OnOk result (Keeps drawer.old.state drawer.new.state) }
 {
-    if drawer.state.run_one(first, input)? {
+    set_counting::<Brand>(drawer, input, first, Blank::new(1))
+}
+
+/// The same, which counts what is undone in a ledger of its own.
+#[tactic(auto, using(tk_expr::proofs::Runs::evaluated_is_the_answer))]
+fn set_counting<L: Ledger>(
+    drawer: &mut Drawer,
+    input: &mut Input,
+    first: Tok,
+    blank: Blank,
+) -> Result<Flow, Refusal>
+    requires sound { IsSound drawer.old }
+    requires name { blank.name ≡ L.name }
+    requires parts { blank.parts ≡ L.parts }
+    requires some { 0 < L.parts }
+    ensures gives { (opener : AnOpener) → Gives (flow_of drawer.new input.new) result
+        (command (given_to drawer.old) (commands (given_to drawer.old)) Begins_other first opener
+        (place_of_run drawer.old input.old)) }
+    ensures sound { OnOk result (IsSound drawer.new) }
+    ensures kept { OnOk result (Keeps drawer.old.state drawer.new.state) }
+{
+    if drawer
+        .state
+        .run_one::<L>(first, input, &mut Steps::new(blank))?
+    {
         Ok(Flow::GoesOn)
     } else {
         Err(Refusal::new(Code::UnknownCommand, first.at))

@@ -92,18 +92,26 @@ pub record Changes (old new : Levels) (tables : Tables) : Type 0 where
   pub levels : new ≡ record old { top = level_of tables new.top.settings }
   pub settings : CountsOne old new
 
+-- where a level is open there is one further out
+none_open : (saved : List Saved) (mark : ℕ) (marks : List ℕ) (tables : Tables) → outer_of saved (mark ∷ marks) tables ≡ [] → suc (length marks) ≡ 0
+none_open saved mark marks tables none = sym (outer_length saved (mark ∷ marks) tables) ∙ ap (λ (l : List Level). length l) none
+
 -- at a level that is open
-changes_level : (saved all : List Saved) (marks : List ℕ) (old new : Tables) (s : Saved)
+changes_level : (saved all : List Saved) (mark : ℕ) (marks : List ℕ) (old new : Tables) (s : Saved)
     → all ≡ s ∷ saved
     → before s new ≡ old
-    → AreMarks (length saved) marks
-    → Changes (levels_of saved marks old) (levels_of all marks new) new
-changes_level saved all marks old new s are back marked =
-    let count : settings_at (length all) marks ≡ settings_at (length saved) marks + 1 =
-    one_setting_more saved all marks old new s are marked in
+    → AreMarks (length saved) (mark ∷ marks)
+    → Changes (levels_of saved (mark ∷ marks) old) (levels_of all (mark ∷ marks) new) new
+changes_level saved all mark marks old new s are back marked =
+    let count : settings_at (length all) (mark ∷ marks) ≡ settings_at (length saved) (mark ∷ marks) + 1 =
+    one_setting_more saved all (mark ∷ marks) old new s are marked in
     record {
-      levels = levels_set saved all marks old new s are marked back;
-      settings = record { low = omega (arith, count); high = omega (arith, count) };
+      levels = levels_set saved all (mark ∷ marks) old new s are marked back;
+      settings = record {
+        low = omega (arith, count);
+        high = omega (arith, count);
+        lowest = λ none. (let some = none_open saved mark marks old none in omega (arith, some));
+      };
     }
 
 -- and while none is
@@ -121,7 +129,7 @@ changes_bottom saved all marks old new are none =
     ap (λ (l : List Saved). settings_at (length l) marks) are in
     record {
       levels = λ i. record { outer = outer i; top = level_of new (settings_at (length all) marks) };
-      settings = record { low = omega (arith, count); high = omega (arith, count) };
+      settings = record { low = omega (arith, count); high = omega (arith, count); lowest = λ _. count };
     }
 
 -- in either case, where what a setting replaced is kept only if a level is open
@@ -136,7 +144,7 @@ module _ (saved all : List Saved) (s : Saved) where
       → Changes (levels_of saved marks old) (levels_of all marks new) new
   changes_kept [] old new are back marked = changes_bottom saved all [] old new are refl
   changes_kept (mark ∷ marks) old new are back marked =
-      changes_level saved all (mark ∷ marks) old new s (are ∙ kept_there mark marks) back marked
+      changes_level saved all mark marks old new s (are ∙ kept_there mark marks) back marked
 
   marks_kept : (marks : List ℕ) → all ≡ (if nat_eq (length marks) 0 then saved else s ∷ saved)
       → AreMarks (length saved) marks → AreMarks (length all) marks

@@ -37,10 +37,11 @@ new_levels = record { outer = []; top = empty_level }
 abbrev pub opened : Levels → Levels
 opened levels = record { outer = levels.top ∷ levels.outer; top = record levels.top { settings = 0 } }
 
--- the current level counts as many settings as before, or one more
+-- the current level counts as many settings as before, or one more; the lowest, which is never closed, counts none
 pub record CountsOne (old new : Levels) : Type 0 where
   pub low : old.top.settings ≤ new.top.settings
   pub high : new.top.settings ≤ old.top.settings + 1
+  pub lowest : old.outer ≡ [] → new.top.settings ≡ old.top.settings
 
 -- a word has a macro at the current level; all else stays
 pub record SetsMacro (old new : Levels) (word : ℕ) (value : Macro) : Type 0 where

@@ -10,7 +10,7 @@ use std::sync::ledger::{Blank, Book, Ledger, Share};
 ///
 /// A caller that counts for its own caller takes `steps: &mut Steps<L>` and hands it on. One that counts for nobody
 /// makes a counter in a function of its own, `fn f<L: Ledger>(.., blank: Blank)` with what `new` requires, and calls
-/// that at `f::<Brand>(.., Blank::new(1))`, as `Store::close_uncounted` does.
+/// that at `f::<Brand>(.., Blank::new(1))`.
 #[derive(Drop)]
 pub struct Steps<L: Ledger> {
     book: Book<L>,

@@ -13,8 +13,8 @@ use crate::tables::{Saved, Tables};
 use crate::{Entry, Macro};
 use arrayvec::ArrayVec;
 use std::alloc::{AllocError, Global};
-use std::marker::{Brand, Model};
-use std::sync::ledger::{Blank, Ledger};
+use std::marker::Model;
+use std::sync::ledger::Ledger;
 
 /// The macros and the keys of all open levels, of which there are at most 128, and none at first. After
 /// `\def\a{x}{\def\a{y}` the word `\a` stands for `y`, and once the `}` is read for `x` again.
@@ -113,25 +113,6 @@ impl Store {
         if let Some(mark) = self.marks.pop() {
             undo(&mut self.tables, &mut self.saved, mark, steps);
         }
-    }
-
-    /// Closes the current level for a caller that doesn't count. This takes no memory.
-    pub fn close_uncounted(&mut self)
-        requires { 0 < length self.old.outer }
-        ensures { self.old.outer ≡ self.new.top ∷ self.new.outer }
-    {
-        self.close_counting::<Brand>(Blank::new(1));
-    }
-
-    /// Closes the current level, and counts in a ledger of its own.
-    fn close_counting<L: Ledger>(&mut self, blank: Blank)
-        requires level { 0 < length self.old.outer }
-        requires name { blank.name ≡ L.name }
-        requires parts { blank.parts ≡ L.parts }
-        requires some { 0 < L.parts }
-        ensures { self.old.outer ≡ self.new.top ∷ self.new.outer }
-    {
-        self.close::<L>(&mut Steps::new(blank));
     }
 
     /// How many levels are open. This takes no memory.

@@ -9,6 +9,7 @@ returns c =
     let new = c.in_ok-store.ensures in
     record {
       outer = set.outer ∙ ap (λ (l : Levels). l.outer) new;
+      settings = set.lowest (ap (λ (l : Levels). l.outer) new) ∙ ap (λ (l : Levels). l.top.settings) new;
       macros = set.macros ∙ ap (λ (l : Levels). l.top.macros) new;
       keys = set.keys ∙ ap (λ (l : Levels). with_entries l.top.keys (initial_entries c.args.also)) new;
     }

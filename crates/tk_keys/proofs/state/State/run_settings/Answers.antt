@@ -8,13 +8,13 @@ use Rattle.tk_keys.proofs.Loops.{runs_by}
 use Rattle.tk_keys.proofs.state.State.run_settings.Goals as goal
 
 pub returns-in_err-run_text-clause-gives : goal.returns-in_err-run_text-clause-gives
-returns-in_err-run_text-clause-gives c ev is =
+returns-in_err-run_text-clause-gives g c ev is =
     let p = err_from_is_err_and c.from_residual-in_err-run_text.result c.from_residual-in_err-run_text.ensures.1 in
     rw (p.1, p.2) (fails_as c.in_err-run_text.field-0.0 _ _ (runs_by ev is c.args.self.now
     (Some_settings (standing_of c.args.self.now c.args.dir (unread c.args.list.now c.args.at)))) (rw c.in_ok-list.ensures at
     c.in_err-run_text.ensures.gives))
 
 pub returns-clause-gives : goal.returns-clause-gives
-returns-clause-gives c ev is =
+returns-clause-gives g c ev is =
     runs_by ev is c.args.self.now (Some_settings (standing_of c.args.self.now c.args.dir (unread c.args.list.now c.args.at)))
     ∙ (rw c.in_ok-list.ensures at c.in_ok-run_text.ensures.gives)

@@ -1,4 +1,4 @@
-use Rattle.tk_store.proofs.store.Store.close_uncounted.Given as goal
+use Rattle.tests_parts.proofs.store.make.Given as goal
 
 abbrev pub ghosts-close_counting : goal.ghosts-close_counting
 ghosts-close_counting a = record { name = a.blank.name; parts = a.blank.parts }
