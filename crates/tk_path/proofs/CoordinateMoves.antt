@@ -108,10 +108,10 @@ module _ (P : ℕ → Type 0) (given : Given) (from : Configuration) where
         → Going P (HereWith P given from AnyValue gone) (coordinate_point given start w c)
     unfolding coordinate_point
     point_here gone start w c k h =
-        let inside = stream c.picture.units (unread w.text w.at) in
+        let inside = stream c.units (unread w.text w.at) in
         then_going P {m = full given.budget c.env.macros inside}
         (record {
-          stands = both_at P (StreamAt P) (λ (r : Stream). c.picture.units ≤ r.units) (full given.budget c.env.macros inside)
+          stands = both_at P (StreamAt P) (λ (r : Stream). c.units ≤ r.units) (full given.budget c.env.macros inside)
               (full_at P given.budget c.env.macros h.good.env.bodies inside k.text) (full_spends given.budget c.env.macros inside);
         }) (λ text a.
         let g = c.env.graphics in

@@ -32,12 +32,12 @@ same_given ev s t k =
 
 -- one drawer after the other
 pub drawn_then : (a b c : Drawer) → KeepsDrawn a b → KeepsDrawn b c → KeepsDrawn a c
-drawn_then a b c f g = record { state = keeps_then a.state b.state c.state f.state g.state; items = g.items ∙ f.items; frame = g.frame ∙ f.frame }
+drawn_then a b c f g = record { state = keeps_then a.state b.state c.state f.state g.state; items = g.items ∙ f.items; proper = (λ h. g.proper (f.proper h)) }
 
 -- where only units were paid
 pub paid_keeps : (a b : Drawer) → OnlyPays a b → KeepsDrawn a b
 paid_keeps a b pays = subst (KeepsDrawn a) (sym pays) (record {
   state = record { names = refl; font = refl; budget = refl; outer = refl; saved = refl; lists = refl };
   items = refl;
-  frame = refl;
+  proper = (λ h. h);
 })

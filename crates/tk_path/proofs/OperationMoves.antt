@@ -141,6 +141,7 @@ module _ (P : ℕ → Type 0) (given : Given) (begin : P 0) (evaluates : Evaluat
   behind_here gone p words.Arc c h = gives P _ (tt, h)
   behind_here gone p words.Grid c h = gives P _ (tt, h)
   behind_here gone p words.Node c h = gives P _ (tt, h)
+  behind_here gone p words.Coordinate c h = gives P _ (tt, h)
   behind_here gone p words.Foreach c h = gives P _ (tt, h)
   behind_here gone p words.Cycle c h = gives P _ (tt, h)
 
@@ -175,10 +176,10 @@ module _ (P : ℕ → Type 0) (given : Given) (begin : P 0) (evaluates : Evaluat
   unfolding text_behind
   text_here gone at c p h =
       then_going P (closed_here P given from gone at c p h) (λ written w.
-      let inside = stream c.picture.units (unread written.front at) in
+      let inside = stream c.units (unread written.front at) in
       then_going P {m = full given.budget c.env.macros inside}
       (record {
-        stands = both_at P (StreamAt P) (λ (r : Stream). c.picture.units ≤ r.units) (full given.budget c.env.macros inside)
+        stands = both_at P (StreamAt P) (λ (r : Stream). c.units ≤ r.units) (full given.budget c.env.macros inside)
             (full_at P given.budget c.env.macros h.good.env.bodies inside w.places.0) (full_spends given.budget c.env.macros inside);
       }) (λ text k.
       gives P _ (
@@ -266,7 +267,7 @@ module _ (P : ℕ → Type 0) (given : Given) (begin : P 0) (evaluates : Evaluat
       then_going P (length_at P given m.x at m.xstep p) (λ xstep _.
       then_going P (length_at P given m.y at m.ystep p) (λ ystep _.
       let mesh : Mesh = record { matrix = m.matrix; xstep = xstep; ystep = ystep } in
-      then_going P (mesh_at (origin_of c.env) mesh end at c.picture.units c.picture.path p) (λ drawn k.
+      then_going P (mesh_at (origin_of c.env) mesh end at c.units c.picture.path p) (λ drawn k.
       gives P _ (record {
         end = h.end;
         units = (let a = h.units in omega arith);
@@ -306,6 +307,7 @@ module _ (P : ℕ → Type 0) (given : Given) (begin : P 0) (evaluates : Evaluat
   operation_here gone words.Arc at c p h = arc_here gone at c p h
   operation_here gone words.Grid at c p h = grid_here gone at c p h
   operation_here gone words.Node at c p h = refused P Unbuilt at p
+  operation_here gone words.Coordinate at c p h = refused P Unbuilt at p
   operation_here gone words.Foreach at c p h = refused P Unbuilt at p
   operation_here gone words.Cycle at c p h = refused P Unbuilt at p
   operation_here gone words.And at c p h = refused P Unbuilt at p

@@ -111,24 +111,11 @@ module _ (P : ℕ → Type 0) (given : Given) (begin : P 0) (evaluates : Evaluat
       (λ s r. (gone : ℕ) → Here P given from gone s.start → Going P (Here P given from gone) r) (λ s gone k. record { stands = begin })
       (λ rec moves s gone k. step_here rec (λ gone s k. moves s gone k) gone s k) s gone h
 
-  drawn_units : (look : Look) (pic : Picture) → (drawn look pic).units ≡ pic.units
-  drawn_units look pic = by pic.path.segs
-    where
-      by : (segs : List Seg) → (drawn_by look segs pic).units ≡ pic.units
-      by [] = refl
-      by (seg ∷ segs) = refl
-
   -- what was drawn is there
   drawn_here : (gone : ℕ) (c : Configuration) → Here P given from gone c
       → Here P given from gone (record c { picture = drawn c.env.graphics.look c.picture })
   drawn_here gone c h =
-      let same = drawn_units c.env.graphics.look c.picture in
-      record {
-        end = h.end;
-        units = (let u = h.units in omega (arith, same));
-        work = (let w = h.work in omega (arith, same));
-        good = record { env = h.good.env; rest = h.good.rest; end = h.good.end };
-      }
+      record { end = h.end; units = h.units; work = h.work; good = record { env = h.good.env; rest = h.good.rest; end = h.good.end } }
 
   pub path_here : (gone : ℕ) (c : Configuration) → Here P given from gone c → Going P (Here P given from gone) (path given c)
   unfolding path

@@ -69,6 +69,7 @@ module _ (P : ℕ → Type 0) (given : Given) (from : Configuration) where
     target_by_here gone at words.Arc c p h = refused P Unbuilt at p
     target_by_here gone at words.Grid c p h = refused P Unbuilt at p
     target_by_here gone at words.Node c p h = refused P Unbuilt at p
+    target_by_here gone at words.Coordinate c p h = refused P Unbuilt at p
     target_by_here gone at words.Foreach c p h = refused P Unbuilt at p
     target_by_here gone at words.And c p h = refused P Unbuilt at p
 

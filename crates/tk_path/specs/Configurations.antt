@@ -9,31 +9,28 @@ use Rattle.tk_expand.specs.Expand.{Stream, stream, work}
 use Rattle.tk_expand.specs.Reading.{is_there, place_of, next, next_solid}
 use Rattle.tk_keys.specs.Environment.{Env, Situation}
 use Rattle.tk_keys.specs.Given.{Given}
-use Rattle.tk_path.specs.Pictures.{Picture, with_units}
+use Rattle.tk_path.specs.Pictures.{Picture}
 
--- what words and keys mean, the picture so far, and the list that is left
+-- what words and keys mean, the picture so far, the list that is left, and the units paid so far
 pub record Configuration : Type 0 where
   pub env : Env
   pub picture : Picture
   pub list : Unread
-
--- those three
-abbrev pub configuration : Env → Picture → Unread → Configuration
-configuration env pic list = record { env = env; picture = pic; list = list }
+  pub units : ℕ
 
 -- ---- the list
 
 -- the units paid so far, and the list that is left
 abbrev pub stream_at : Configuration → Stream
-stream_at c = stream c.picture.units c.list
+stream_at c = stream c.units c.list
 
 -- what words and keys mean, and the units paid so far
 abbrev pub situation_at : Configuration → Situation
-situation_at c = record { env = c.env; units = c.picture.units }
+situation_at c = record { env = c.env; units = c.units }
 
 -- the run goes on with that stream
 abbrev pub with_stream : Configuration → Stream → Configuration
-with_stream c s = configuration c.env (with_units c.picture s.units) s.list
+with_stream c s = record c { list = s.list; units = s.units }
 
 -- a token that was taken, if there was one, and how far the run has come behind it
 pub record Lookahead : Type 0 where

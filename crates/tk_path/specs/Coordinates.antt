@@ -78,7 +78,7 @@ module _ (given : Given) where
   -- the point of a coordinate, relative to a point where it has a sign: its text is expanded first
   unfoldable pub coordinate_point : Point → Written → Configuration → Answer (Reached Point)
   coordinate_point from w c = do
-    text ← full given.budget c.env.macros (stream c.picture.units (unread w.text w.at))
+    text ← full given.budget c.env.macros (stream c.units (unread w.text w.at))
     let g = c.env.graphics
     point ← point_of_target (target_of given.evaluate given.font g.look g.matrix w.at (start_of w.sign from) text.list.rest)
     Ok (reached point (with_stream c (stream text.units c.list)))

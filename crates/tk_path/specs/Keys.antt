@@ -13,13 +13,12 @@ use Rattle.tk_keys.specs.Environment.{Env, tikz_path}
 use Rattle.tk_keys.specs.Given.{Given}
 use Rattle.tk_keys.specs.Keys.{run_at}
 use Rattle.tk_keys.specs.Settings.{A_key_list, runs}
-use Rattle.tk_path.specs.Configurations.{Configuration, configuration, situation_at, Reached, reached, Lookahead}
+use Rattle.tk_path.specs.Configurations.{Configuration, situation_at, Reached, reached, Lookahead}
 use Rattle.tk_path.specs.Configurations.{place_ahead, ahead_of}
-use Rattle.tk_path.specs.Pictures.{with_units}
 
 -- the run goes on with another list
 abbrev pub with_list : Configuration → Unread → Configuration
-with_list c list = configuration c.env c.picture list
+with_list c list = record c { list = list }
 
 -- the run goes on with what words and keys mean
 abbrev pub with_env : Env → Configuration → Configuration
@@ -41,7 +40,7 @@ module _ (given : Given) where
   unfoldable pub with_keys : ℕ → List Tok → Configuration → Answer Configuration
   with_keys at list c = do
     after ← runs given (A_key_list (situation_at c) (codes "/tikz") list at)
-    Ok (configuration after.now.env (with_units c.picture after.now.units) c.list)
+    Ok (record c { env = after.now.env; units = after.now.units })
 
   -- a style that runs by itself at a place, where it has a run
   unfoldable pub with_style : ℕ → List ℕ → Configuration → Answer Configuration

@@ -35,7 +35,6 @@ use Rattle.tk_path.specs.Keys.{put_back, with_list}
 use Rattle.tk_path.specs.Measures.{measures_of, inner_measures, measures_from, length_across, length_upward, radii_in}
 use Rattle.tk_path.specs.Measures.{arc_in, sweep_of}
 use Rattle.tk_path.specs.Meshes.{mesh_drawn}
-use Rattle.tk_path.specs.Pictures.{with_units}
 use Rattle.tk_path.specs.Targets.{with_current, origin_of, here, reference, Target, A_coordinate, The_start, goal_of}
 use Rattle.tk_path.specs.Targets.{goal_ahead, target_ahead}
 use Rattle.tk_path.specs.Words.{word_ahead, past_word}
@@ -81,8 +80,8 @@ grid_to budget at m to c = do
   xstep ← length_across m at m.xstep
   ystep ← length_upward m at m.ystep
   let mesh : Mesh = record { matrix = m.matrix; xstep = xstep; ystep = ystep }
-  drawn ← mesh_drawn (origin_of c.env) mesh to budget at c.picture.units c.picture.path
-  Ok (with_current drawn.path (record c { picture = with_units c.picture drawn.units }))
+  drawn ← mesh_drawn (origin_of c.env) mesh to budget at c.units c.picture.path
+  Ok (with_current drawn.path (record c { units = drawn.units }))
 
 module _ (given : Given) where
   -- where the second control point is, of a curve that ends at that point
@@ -173,7 +172,7 @@ module _ (given : Given) where
   unfoldable pub text_behind : ℕ → Configuration → Answer (Reached (List Tok))
   text_behind at c = do
     written ← or_fault (before_char right_parenthesis c.list.rest) Coordinate at
-    text ← full given.budget c.env.macros (stream c.picture.units (unread written.front at))
+    text ← full given.budget c.env.macros (stream c.units (unread written.front at))
     Ok (reached text.list.rest (with_stream c (stream text.units (unread written.rest c.list.end))))
 
   -- what a circle is measured by, where the first token behind its word was taken: radii in parentheses, options, or

@@ -1,5 +1,5 @@
 -- A picture as far as it is drawn.
-use Rattle.std.specs.Prelude.{ℕ, ◌||◌, if◌then◌else◌, List, [], ◌∷◌, ◌++◌, Option, None}
+use Rattle.std.specs.Prelude.{◌||◌, if◌then◌else◌, List, [], ◌∷◌, ◌++◌, Option, None}
 use Rattle.tk_item.specs.declared.Frame.{Frame}
 use Rattle.tk_item.specs.declared.Item.{Item}
 use Rattle.tk_item.specs.declared.Item.TheVariants.{Path}
@@ -9,16 +9,15 @@ use Rattle.tk_look.specs.declared.Look.{Look}
 use Rattle.tk_look.specs.Strokes.{look_fill, look_stroke, look_reach}
 use Rattle.tk_path.specs.CurrentPaths.{CurrentPath, no_path}
 
--- a picture so far: its items, the frame round them, the units paid, and the path that is being read
+-- a picture so far: its items, the frame round them, and the path that is being read
 pub record Picture : Type 0 where
   pub items : List Item
   pub frame : Option Frame
-  pub units : ℕ
   pub path : CurrentPath
 
--- nothing is drawn or paid
+-- nothing is drawn
 abbrev pub first_picture : Picture
-first_picture = record { items = []; frame = None; units = 0; path = no_path }
+first_picture = record { items = []; frame = None; path = no_path }
 
 -- another path is being read
 abbrev pub with_path : CurrentPath → Picture → Picture
@@ -39,7 +38,3 @@ drawn_by look (seg ∷ segs) pic = record pic {
 -- the path that was read is there, with a look
 abbrev pub drawn : Look → Picture → Picture
 drawn look pic = with_path no_path (drawn_by look pic.path.segs pic)
-
--- a picture for which so many units are paid
-abbrev pub with_units : Picture → ℕ → Picture
-with_units pic units = record pic { units = units }

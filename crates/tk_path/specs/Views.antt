@@ -5,7 +5,7 @@ use Rattle.std.specs.List.{AllByRecursion}
 use Rattle.tk_item.specs.declared.Point.{Point}
 use Rattle.tk_item.specs.declared.Seg.{Seg}
 use Rattle.tk_item.specs.Frame.{IsProperFrame}
-use Rattle.tk_svg.specs.Fitting.{BeginsWithMove, FitsItem, IsPath}
+use Rattle.tk_svg.specs.Fitting.{BeginsWithMove, FitsItem}
 use Rattle.tk_token.specs.declared.Tok.{Tok}
 use Rattle.tk_expand.specs.Unread.{Unread}
 use Rattle.tk_expr.specs.Evaluated.{evaluated}
@@ -23,7 +23,7 @@ use Rattle.tk_path.specs.declared.operations.Way as code_way
 use Rattle.tk_path.specs.declared.operations.Way.TheVariants as ways
 use Rattle.tk_path.specs.declared.targets.Target as code_target
 use Rattle.tk_path.specs.declared.targets.Target.TheVariants as targets
-use Rattle.tk_path.specs.Configurations.{Configuration, configuration, Reached, reached, Lookahead, lookahead}
+use Rattle.tk_path.specs.Configurations.{Configuration, Reached, reached, Lookahead, lookahead}
 use Rattle.tk_path.specs.Coordinates.{Written}
 use Rattle.tk_path.specs.CurrentPaths.{CurrentPath}
 use Rattle.tk_path.specs.Flow.{Flow, Goes_on, Finishes}
@@ -43,11 +43,12 @@ given_to d = given_of evaluated d.state
 
 -- the picture so far, with the path that is being read
 abbrev pub picture_of : Drawer → CurrentPath → Picture
-picture_of d path = record { items = d.items; frame = d.frame; units = d.state.units; path = path }
+picture_of d path = record { items = d.items; frame = d.frame; path = path }
 
 -- how far the run has come
 abbrev pub configuration_of : Drawer → CurrentPath → Unread → Configuration
-configuration_of d path list = configuration (env_of d.state) (picture_of d path) list
+configuration_of d path list =
+    record { env = env_of d.state; picture = picture_of d path; list = list; units = d.state.units }
 
 -- a token that was taken
 abbrev pub lookahead_of : Option Tok → Drawer → CurrentPath → Unread → Lookahead
@@ -85,18 +86,18 @@ way_of (ways.Curved first second) = Curved first (control_of second)
 -- what is drawn fits a document
 pub record IsSound (d : Drawer) : Type 0 where
   pub items : AllByRecursion FitsItem d.items
-  pub paths : AllByRecursion IsPath d.items
   pub proper : IfSome d.frame IsProperFrame
 
 -- nothing but the units paid is another
 abbrev pub OnlyPays : Drawer → Drawer → Type 0
 OnlyPays old new = new ≡ record old { state = record old.state { units = new.state.units } }
 
--- what was given stays, and so do the levels further out, the count of running key lists, and what was drawn
+-- what was given stays, and so do the levels further out, the count of running key lists, and the items; a frame that
+-- was proper is so
 pub record KeepsDrawn (old new : Drawer) : Type 0 where
   pub state : Keeps old.state new.state
   pub items : new.items ≡ old.items
-  pub frame : new.frame ≡ old.frame
+  pub proper : IfSome old.frame IsProperFrame → IfSome new.frame IsProperFrame
 
 -- the pieces of a path, if there are some
 abbrev pub BeginsOrNone : List Seg → Type 0

@@ -35,13 +35,13 @@ operation_words =
     ∷ (codes "arc", words.Arc)
     ∷ (codes "grid", words.Grid)
     ∷ (codes "node", words.Node)
-    ∷ (codes "coordinate", words.Node)
+    ∷ (codes "coordinate", words.Coordinate)
     ∷ (codes "foreach", words.Foreach)
     ∷ []
 
 -- nodes, which may stand before the coordinate to which an operation goes
 abbrev pub node_words : List (List ℕ × PathWord)
-node_words = (codes "node", words.Node) ∷ (codes "coordinate", words.Node) ∷ []
+node_words = (codes "node", words.Node) ∷ (codes "coordinate", words.Coordinate) ∷ []
 
 -- what a line, corner or curve may go to beside a coordinate, and nodes before it
 abbrev pub target_words : List (List ℕ × PathWord)

@@ -2,7 +2,7 @@
 
 ghost use Rattle.std.specs.Prelude.{◌≡◌, OnOk, ◌++◌};
 ghost use Rattle.std.specs.List.{AllByRecursion};
-ghost use Rattle.tk_svg.specs.Fitting.{BeginsWithMove, FitsItem, IsPath};
+ghost use Rattle.tk_svg.specs.Fitting.{BeginsWithMove, FitsItem};
 ghost use Rattle.tk_expr.specs.Evaluates.{Evaluation};
 ghost use Rattle.tk_keys.specs.State.{given_of};
 ghost use Rattle.tk_token.specs.Refusals.{Gives};
@@ -82,7 +82,6 @@ fn push_path(items: &mut Items, segs: Segs, look: &Look) -> Result<(), AllocErro
     requires { BeginsWithMove segs }
     ensures items { OnOk result (items.new ≡ items.old ++ pictures.path_items look.now segs) }
     ensures fits { OnOk result (AllByRecursion FitsItem items.old → AllByRecursion FitsItem items.new) }
-    ensures paths { OnOk result (AllByRecursion IsPath items.old → AllByRecursion IsPath items.new) }
 {
     if !(look.fill_on || look.draw_on) {
         return Ok(());

@@ -29,8 +29,8 @@ pub(crate) enum PathWord {
     Circle,
     Arc,
     Grid,
-    /// `node` or `coordinate`
     Node,
+    Coordinate,
     Foreach,
     Cycle,
     And,
@@ -65,7 +65,7 @@ fn operation(first: char, second: char) -> Option<Row>
         ('t', 'o') => Some((b"", PathWord::To)),
         ('r', 'e') => Some((b"ctangle", PathWord::Rectangle)),
         ('c', 'i') => Some((b"rcle", PathWord::Circle)),
-        ('c', 'o') => Some((b"ordinate", PathWord::Node)),
+        ('c', 'o') => Some((b"ordinate", PathWord::Coordinate)),
         ('e', 'l') => Some((b"lipse", PathWord::Circle)),
         ('a', 'r') => Some((b"c", PathWord::Arc)),
         ('g', 'r') => Some((b"id", PathWord::Grid)),
@@ -82,7 +82,7 @@ fn node(first: char, second: char) -> Option<Row>
 {
     match (first, second) {
         ('n', 'o') => Some((b"de", PathWord::Node)),
-        ('c', 'o') => Some((b"ordinate", PathWord::Node)),
+        ('c', 'o') => Some((b"ordinate", PathWord::Coordinate)),
         _ => None,
     }
 }
@@ -95,7 +95,7 @@ fn target(first: char, second: char) -> Option<Row>
     match (first, second) {
         ('n', 'o') => Some((b"de", PathWord::Node)),
         ('c', 'y') => Some((b"cle", PathWord::Cycle)),
-        ('c', 'o') => Some((b"ordinate", PathWord::Node)),
+        ('c', 'o') => Some((b"ordinate", PathWord::Coordinate)),
         _ => None,
     }
 }

@@ -26,13 +26,12 @@ use Rattle.tk_picture.specs.declared.Compiled.{Compiled}
 use Rattle.tk_picture.specs.Commands.{BlockOpener, A_picture, A_scope, A_group, place_of_opener, Beginning, Begins_path, Opens_group, Closes_group}
 use Rattle.tk_picture.specs.Commands.{Begins_environment, Ends_environment, Begins_later, Begins_other, beginning_of, Block, block, CommandFlow}
 use Rattle.tk_picture.specs.Commands.{named_or, end_behind, styled_commands, set_or_unknown, command, command_at, commands_step, block_work, commands}
-use Rattle.tk_path.specs.Keys.{with_env}
-use Rattle.tk_path.specs.Configurations.{Configuration, configuration, stream_at, situation_at}
+use Rattle.tk_path.specs.Keys.{with_env, with_list}
+use Rattle.tk_path.specs.Configurations.{Configuration, stream_at, situation_at}
 use Rattle.tk_picture.specs.Beginnings.{plain, path_begun, whole_path}
 use Rattle.tk_picture.specs.Progress.{Progress, progress_at, with_progress}
-use Rattle.tk_picture.specs.Documents.{is_word, compiled, nothing_after, picture_behind, document}
+use Rattle.tk_picture.specs.Documents.{is_word, compiled, first_configuration, nothing_after, picture_behind, document}
 use Rattle.tk_path.specs.Flow.{Goes_on, Finishes, go_on}
-use Rattle.tk_path.specs.Pictures.{first_picture}
 use Rattle.tk_path.proofs.Places.{At, Here, passed, solid_here}
 use Rattle.tk_picture.proofs.Returning.{Back, comes_back, goes_on_with}
 use Rattle.tk_path.proofs.KeyMoves.{keys_here, style_here, styled_here}
@@ -81,7 +80,7 @@ module _ (P : ℕ → Type 0) (given : Given) (begin : P 0) (values : EvaluatesA
 
     -- over another list, which has no more tokens and the same end
     over_list : (gone : ℕ) (c : Configuration) (inside : Env) (list : Unread) → Here P given from gone c → EnvAt P inside
-        → Within P (length c.list.rest) c.list.end list → Here P given from gone (configuration inside c.picture list)
+        → Within P (length c.list.rest) c.list.end list → Here P given from gone (with_env inside (with_list c list))
     over_list gone c inside list h m w = record {
       end = w.same ∙ h.end;
       units = h.units;
@@ -150,11 +149,11 @@ module _ (P : ℕ → Type 0) (given : Given) (begin : P 0) (values : EvaluatesA
       command_here gone Begins_environment t opener c p h =
           then_going P (named_at UnknownCommand t.at (codes "scope") c.list p h.good.rest h.good.end) (λ list w.
           then_going P (level_at t.at c.env p h.good.env) (λ inside m.
-          then_going P (styled_commands_here gone (codes "every scope") (A_scope t.at) (configuration inside c.picture list) p
+          then_going P (styled_commands_here gone (codes "every scope") (A_scope t.at) (with_env inside (with_list c list)) p
           (over_list gone c inside list h m w)) (λ q r. gives P _ (goes_on_with P given from gone gone c q h r))))
       command_here gone Ends_environment t opener c p h =
           then_going P (end_behind_at t.at opener c.list p h.good.rest h.good.end) (λ list w.
-          gives P _ (comes_back P given from gone (configuration c.env c.picture list) (over_list gone c c.env list h h.good.env w)))
+          gives P _ (comes_back P given from gone (with_list c list) (over_list gone c c.env list h h.good.env w)))
       command_here gone Begins_later t opener c p h = record { stands = p }
       command_here gone Begins_other t opener c p h =
           then_going P {m = one_setting given t (situation_at c) c.list} (record {
@@ -199,10 +198,10 @@ module _ (P : ℕ → Type 0) (given : Given) (begin : P 0) (values : EvaluatesA
             (codes "tikzpicture") list (record { short = omega arith; rest = h; same = refl; last = last });
       }) (λ inside w.
       then_going P (level_at at (first_env given) p (first_env_at P given begin)) (λ env b.
-      let start = configuration env first_picture inside in
+      let start = first_configuration env inside in
       then_going P (styled_commands_here start (commands given) (commands_here start) 0 (codes "every picture") (A_picture at) start p
       (begins given.budget stream_at (At P) start (record { env = b; rest = w.rest; end = w.last }))) (λ q r.
-      nothing_at (compiled q.picture) (after_spaces q.list.rest) (spaces_at P q.list.rest r.rest))))
+      nothing_at (compiled q.picture q.units) (after_spaces q.list.rest) (spaces_at P q.list.rest r.rest))))
 
   pub document_at : (list : Unread) → StandAt P list.rest → P list.end → Going P (λ (c : Compiled). Unit {0}) (document given list)
   unfolding document

@@ -11,46 +11,55 @@ use Rattle.tk_keys.specs.Given.{Given}
 use Rattle.tk_picture.specs.declared.Compiled.{Compiled}
 use Rattle.tk_picture.specs.Commands.{A_picture, styled_commands, commands}
 use Rattle.tk_path.specs.Keys.{with_keys, with_style}
-use Rattle.tk_path.specs.Configurations.{Configuration, configuration}
+use Rattle.tk_path.specs.Configurations.{Configuration}
 use Rattle.tk_picture.specs.Progress.{Progress}
-use Rattle.tk_picture.specs.Documents.{compiled, nothing_after, picture_behind}
+use Rattle.tk_picture.specs.Documents.{compiled, first_configuration, nothing_after, picture_behind}
 use Rattle.tk_token.specs.declared.Refusal.{Refusal}
 use Rattle.tk_token.specs.Refusals.{Fails}
 use Rattle.tk_token.specs.Texts.{tokens_of}
 use Rattle.tk_picture.specs.Beginnings.{plain, path_begun}
 use Rattle.tk_path.specs.Pictures.{Picture, first_picture}
 
-module _ (given now : Given) (at : ℕ) (list inside : Unread) (new env : Env) (pic : Picture) (same : now ≡ given) (first : new ≡ first_env given)
-    (none : pic ≡ first_picture) (name : after_name Unbuilt (codes "tikzpicture") list ≡ Ok inside) (within : level at new ≡ Ok env) where
+-- where the run stands with that picture, and with those units paid
+abbrev run_at : Env → Unread → Picture → ℕ → Configuration
+run_at env list pic units = record { env = env; picture = pic; list = list; units = units }
+
+-- it is at its beginning where nothing is drawn or paid
+pub first_is : (env : Env) (list : Unread) (pic : Picture) (units : ℕ) → pic ≡ first_picture → units ≡ 0
+    → run_at env list pic units ≡ first_configuration env list
+first_is env list pic units p u = ap (λ (pic : Picture). run_at env list pic units) p ∙ ap (run_at env list first_picture) u
+
+module _ (given now : Given) (at : ℕ) (list inside : Unread) (new env : Env) (start : Configuration) (same : now ≡ given) (first : new ≡ first_env given)
+    (none : start ≡ first_configuration env inside) (name : after_name Unbuilt (codes "tikzpicture") list ≡ Ok inside) (within : level at new ≡ Ok env) where
   -- the commands of a picture
   abbrev inner : Given → Configuration → Answer Progress
   inner g c = styled_commands g (commands g) (codes "every picture") (A_picture at) c
 
   -- what stands behind them
   abbrev last : Progress → Answer Compiled
-  last q = nothing_after (compiled q.picture) (after_spaces q.list.rest)
+  last q = nothing_after (compiled q.picture q.units) (after_spaces q.list.rest)
 
-  picture_starts : picture_behind given at list ≡ (inner given (configuration env first_picture inside) >>= last)
+  picture_starts : picture_behind given at list ≡ (inner given (first_configuration env inside) >>= last)
   unfolding picture_behind
   picture_starts =
-      then_is (after_name Unbuilt (codes "tikzpicture") list) (λ u. level at (first_env given) >>= λ e. inner given (configuration e first_picture u)
+      then_is (after_name Unbuilt (codes "tikzpicture") list) (λ u. level at (first_env given) >>= λ e. inner given (first_configuration e u)
       >>= last) inside name
-      ∙ then_is (level at (first_env given)) (λ e. inner given (configuration e first_picture inside) >>= last) env
+      ∙ then_is (level at (first_env given)) (λ e. inner given (first_configuration e inside) >>= last) env
       (ap (level at) (sym first) ∙ within)
 
-  same_start : (r : Answer Progress) → inner now (configuration env pic inside) ≡ r → inner given (configuration env first_picture inside) ≡ r
-  same_start r h = ap (λ (start : Picture). inner given (configuration env start inside)) (sym none)
-      ∙ ap (λ (g : Given). inner g (configuration env pic inside)) (sym same) ∙ h
+  same_start : (r : Answer Progress) → inner now start ≡ r → inner given (first_configuration env inside) ≡ r
+  same_start r h = ap (inner given) (sym none)
+      ∙ ap (λ (g : Given). inner g start) (sym same) ∙ h
 
   -- a picture whose commands fail
-  pub picture_fails : (e : Refusal) → Fails e (inner now (configuration env pic inside)) → Fails e (picture_behind given at list)
-  picture_fails e h = fails_as e _ _ picture_starts (fails_then e (inner given (configuration env first_picture inside)) last
-      (subst (Fails e) (sym (same_start (inner now (configuration env pic inside)) (λ _. inner now (configuration env pic inside)))) h))
+  pub picture_fails : (e : Refusal) → Fails e (inner now start) → Fails e (picture_behind given at list)
+  picture_fails e h = fails_as e _ _ picture_starts (fails_then e (inner given (first_configuration env inside)) last
+      (subst (Fails e) (sym (same_start (inner now start) (λ _. inner now start))) h))
 
   -- a picture with what stands behind it
-  pub picture_ends : (p : Progress) → inner now (configuration env pic inside) ≡ Ok p
-      → picture_behind given at list ≡ nothing_after (compiled p.picture) (after_spaces p.list.rest)
-  picture_ends p done = picture_starts ∙ then_is (inner given (configuration env first_picture inside)) last p (same_start (Ok p) done)
+  pub picture_ends : (p : Progress) → inner now start ≡ Ok p
+      → picture_behind given at list ≡ nothing_after (compiled p.picture p.units) (after_spaces p.list.rest)
+  picture_ends p done = picture_starts ∙ then_is (inner given (first_configuration env inside)) last p (same_start (Ok p) done)
 
 module _ (given now : Given) (keys : List ℕ) (at : ℕ) (c d : Configuration) (same : now ≡ given) (is : d ≡ plain c) where
   -- a path whose style fails

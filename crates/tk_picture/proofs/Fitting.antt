@@ -8,7 +8,7 @@ use Rattle.tk_item.specs.declared.Frame.{Frame}
 use Rattle.tk_item.specs.declared.Item.{Item}
 use Rattle.tk_item.specs.Frame.{IsProperFrame}
 use Rattle.tk_svg.specs.Document.{IsFamily}
-use Rattle.tk_svg.specs.Fitting.{Fits, FitsItem, IsPath}
+use Rattle.tk_svg.specs.Fitting.{Fits, FitsItem}
 use Rattle.tk_path.specs.declared.drawer.Drawer.{Drawer}
 use Rattle.tk_path.specs.Views.{IsSound, OnlyPays, KeepsDrawn}
 
@@ -30,12 +30,11 @@ drawing_fits d p f h = record {
 
 -- what is drawn fits as before where only units were paid
 pub sound_paid : (old new : Drawer) → OnlyPays old new → IsSound old → IsSound new
-sound_paid old new pays h = subst IsSound (sym pays) (record { items = h.items; paths = h.paths; proper = h.proper })
+sound_paid old new pays h = subst IsSound (sym pays) (record { items = h.items; proper = h.proper })
 
 -- what is drawn fits as before where it stayed
 pub sound_kept : (old new : Drawer) → KeepsDrawn old new → IsSound old → IsSound new
 sound_kept old new kept h = record {
   items = subst (λ (items : List Item). AllByRecursion FitsItem items) (sym kept.items) h.items;
-  paths = subst (λ (items : List Item). AllByRecursion IsPath items) (sym kept.items) h.paths;
-  proper = subst (λ (frame : Option Frame). IfSome frame IsProperFrame) (sym kept.frame) h.proper;
+  proper = kept.proper h.proper;
 }

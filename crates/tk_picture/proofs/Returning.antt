@@ -9,13 +9,13 @@ use Rattle.tk_picture.specs.Progress.{Progress, progress_at, with_progress}
 
 -- the units and the list that came back
 abbrev pub stream_back : Progress → Stream
-stream_back p = stream p.picture.units p.list
+stream_back p = stream p.units p.list
 
 module _ (P : ℕ → Type 0) (given : Given) (from : Configuration) where
   -- this came back from behind an end, and so much of the work is gone
   pub record Back (gone : ℕ) (p : Progress) : Type 0 where
     pub end : p.list.end ≡ from.list.end
-    pub units : from.picture.units ≤ p.picture.units
+    pub units : from.units ≤ p.units
     pub work : work given.budget (stream_back p) + gone ≤ work given.budget (stream_at from)
     pub rest : StandAt P p.list.rest
     pub last : P p.list.end

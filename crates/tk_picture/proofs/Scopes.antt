@@ -11,7 +11,8 @@ use Rattle.tk_expand.specs.Unread.{Unread}
 use Rattle.tk_keys.specs.Environment.{Env, level}
 use Rattle.tk_keys.specs.Given.{Given}
 use Rattle.tk_picture.specs.Commands.{BlockOpener, A_scope, Begins_environment, CommandFlow, named_or, styled_commands, command, commands}
-use Rattle.tk_path.specs.Configurations.{Configuration, configuration}
+use Rattle.tk_path.specs.Configurations.{Configuration}
+use Rattle.tk_path.specs.Keys.{with_env, with_list}
 use Rattle.tk_picture.specs.Progress.{Progress, with_progress}
 use Rattle.tk_path.specs.Flow.{Goes_on}
 
@@ -25,20 +26,20 @@ module _ (given : Given) (t : Tok) (opener : BlockOpener) (c : Configuration) (l
   abbrev inner : Given → Configuration → Answer Progress
   inner g d = styled_commands g (commands g) (codes "every scope") (A_scope t.at) d
 
-  scope_goes : command given (commands given) Begins_environment t opener c ≡ (inner given (configuration inside c.picture list) >>= behind)
+  scope_goes : command given (commands given) Begins_environment t opener c ≡ (inner given (with_env inside (with_list c list)) >>= behind)
   scope_goes =
       then_is (named_or UnknownCommand t.at (after_name UnknownCommand (codes "scope") c.list)) (λ list. level t.at c.env
-      >>= λ inside. inner given (configuration inside c.picture list) >>= behind) list named
-      ∙ then_is (level t.at c.env) (λ inside. inner given (configuration inside c.picture list) >>= behind) inside within
+      >>= λ inside. inner given (with_env inside (with_list c list)) >>= behind) list named
+      ∙ then_is (level t.at c.env) (λ inside. inner given (with_env inside (with_list c list)) >>= behind) inside within
 
-  module _ (later : Given) (same : later ≡ given) (d : Configuration) (is : d ≡ configuration inside c.picture list) where
+  module _ (later : Given) (same : later ≡ given) (d : Configuration) (is : d ≡ with_env inside (with_list c list)) where
     pub scope_fails : (e : Refusal) → Fails e (inner later d) → Fails e (command given (commands given) Begins_environment t opener c)
     scope_fails e h =
-        fails_as e _ _ scope_goes (fails_then e (inner given (configuration inside c.picture list)) behind
+        fails_as e _ _ scope_goes (fails_then e (inner given (with_env inside (with_list c list))) behind
         (subst (λ (d : Configuration). Fails e (inner given d)) is (subst (λ (g : Given). Fails e (inner g d)) same h)))
 
     pub scope_ends : (q : Progress) → inner later d ≡ Ok q
         → command given (commands given) Begins_environment t opener c ≡ Ok (Goes_on (with_progress c q))
     scope_ends q h =
-        scope_goes ∙ then_is (inner given (configuration inside c.picture list)) behind q
+        scope_goes ∙ then_is (inner given (with_env inside (with_list c list))) behind q
         (ap (inner given) (sym is) ∙ ap (λ (g : Given). inner g d) (sym same) ∙ h)

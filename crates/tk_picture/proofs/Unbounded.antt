@@ -16,8 +16,8 @@ use Rattle.tk_picture.specs.Commands.{BlockOpener, A_picture, A_scope, A_group, 
 use Rattle.tk_picture.specs.Commands.{Ends_environment, Begins_later, Begins_other, beginning_of, named_or, Block, block, CommandFlow, command}
 use Rattle.tk_picture.specs.Commands.{command_at, commands_step, block_work, commands}
 use Rattle.tk_path.specs.Keys.{with_style_and_options}
-use Rattle.tk_path.specs.Configurations.{Configuration, configuration, work_at, ahead_of}
-use Rattle.tk_path.specs.Keys.{with_env}
+use Rattle.tk_path.specs.Configurations.{Configuration, work_at, ahead_of}
+use Rattle.tk_path.specs.Keys.{with_env, with_list}
 use Rattle.tk_picture.specs.Progress.{Progress, with_progress}
 use Rattle.tk_path.specs.Flow.{Goes_on, Finishes, go_on}
 use Rattle.tk_picture.proofs.CommandMoves as moves
@@ -58,7 +58,7 @@ module _ (given : Given) where
         (ok_at Any (Within Any (length c.list.rest) c.list.end) _ (moves.named_at Any given tt (any_evaluates given) UnknownCommand t.at
         (codes "scope") c.list tt (any_list c.list.rest) tt).stands) (λ list w.
         then_alike (λ (e : Env). Unit {0}) (level t.at c.env) _ _ (any_value (level t.at c.env)) (λ inside _.
-        let d = configuration inside c.picture list in
+        let d = with_env inside (with_list c list) in
         ap (λ (r : Answer Progress). r >>= λ p. Ok (Goes_on (with_progress c p)))
         (then_alike (Here Any given d 0) (with_style_and_options given t.at (codes "every scope") d) _ _ (ok_at Any (Here Any given d 0) _
         (styled_here Any given tt (any_evaluates given) d 0 t.at (codes "every scope") d tt (any_here given d)).stands) (λ begun m.

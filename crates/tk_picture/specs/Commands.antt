@@ -15,11 +15,10 @@ use Rattle.tk_keys.specs.Environment.{level}
 use Rattle.tk_keys.specs.Given.{Given}
 use Rattle.tk_keys.specs.Settings.{Set, one_setting}
 use Rattle.tk_path.specs.Flow.{Flow, Goes_on, Finishes, go_on}
-use Rattle.tk_path.specs.Keys.{with_env, with_style_and_options}
-use Rattle.tk_path.specs.Pictures.{with_units}
-use Rattle.tk_path.specs.Configurations.{Configuration, configuration, situation_at, work_at, ahead_of}
+use Rattle.tk_path.specs.Keys.{with_env, with_list, with_style_and_options}
+use Rattle.tk_path.specs.Configurations.{Configuration, situation_at, work_at, ahead_of}
 use Rattle.tk_picture.specs.Beginnings.{whole_path}
-use Rattle.tk_picture.specs.Progress.{Progress, progress, progress_at, with_progress}
+use Rattle.tk_picture.specs.Progress.{Progress, progress_at, with_progress}
 
 -- what commands stand in, with its place: a picture, to its `\end{tikzpicture}`, a scope, to its `\end{scope}`, or a
 -- group, to its `}`
@@ -104,7 +103,7 @@ end_behind at opener list = do
 
 -- the run goes on behind a setting
 abbrev pub with_setting : Configuration → Set → Configuration
-with_setting c set = configuration set.now.env (with_units c.picture set.now.units) set.list
+with_setting c set = record c { env = set.now.env; list = set.list; units = set.now.units }
 
 -- a setting that stands there; nothing else is a command
 abbrev pub set_or_unknown : ℕ → Configuration → Option Set → Answer CommandFlow
@@ -134,11 +133,11 @@ module _ (given : Given) where
     command Begins_environment t opener c = do
       list ← named_or UnknownCommand t.at (after_name UnknownCommand (codes "scope") c.list)
       inside ← level t.at c.env
-      scope_behind ← styled_commands (codes "every scope") (A_scope t.at) (configuration inside c.picture list)
+      scope_behind ← styled_commands (codes "every scope") (A_scope t.at) (with_env inside (with_list c list))
       Ok (Goes_on (with_progress c scope_behind))
     command Ends_environment t opener c = do
       list ← end_behind t.at opener c.list
-      Ok (Finishes (progress c.picture list))
+      Ok (Finishes (progress_at (with_list c list)))
     command Begins_later t opener c = fault Unbuilt t.at
     command Begins_other t opener c = do
       set ← one_setting given t (situation_at c) c.list

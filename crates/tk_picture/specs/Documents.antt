@@ -10,11 +10,11 @@ use Rattle.tk_token.specs.Answers.{Answer, ◌>>=◌, fault}
 use Rattle.tk_expand.specs.Unread.{Unread, past_spaces}
 use Rattle.tk_expand.specs.Reading.{next_token, after_name}
 use Rattle.tk_token.specs.Spaces.{after_spaces}
-use Rattle.tk_keys.specs.Environment.{first_env, level}
+use Rattle.tk_keys.specs.Environment.{Env, first_env, level}
 use Rattle.tk_keys.specs.Given.{Given}
 use Rattle.tk_picture.specs.declared.Compiled.{Compiled}
 use Rattle.tk_picture.specs.Commands.{A_picture, styled_commands, commands}
-use Rattle.tk_path.specs.Configurations.{configuration}
+use Rattle.tk_path.specs.Configurations.{Configuration}
 use Rattle.tk_path.specs.Pictures.{Picture, first_picture}
 
 -- `\` and that word
@@ -27,16 +27,20 @@ abbrev pub no_frame : Frame
 no_frame = record { left = pos 0; bottom = pos 0; right = pos 0; top = pos 0 }
 
 -- the drawing of a picture, in which the font is `monospace` of 10pt, and the units paid
-abbrev pub compiled : Picture → Compiled
-compiled pic = record {
+abbrev pub compiled : Picture → ℕ → Compiled
+compiled pic units = record {
   drawing = record {
     frame = unwrap_or pic.frame no_frame;
     family = codes "monospace";
     size = pos 655360;
     items = pic.items;
   };
-  units = pic.units;
+  units = units;
 }
+
+-- where the commands of a picture begin: nothing is drawn or paid
+abbrev pub first_configuration : Env → Unread → Configuration
+first_configuration env list = record { env = env; picture = first_picture; list = list; units = 0 }
 
 -- nothing is left but Spaces
 abbrev pub nothing_after : Compiled → List Tok → Answer Compiled
@@ -50,8 +54,8 @@ module _ (given : Given) where
     inside ← after_name Unbuilt (codes "tikzpicture") list
     env ← level at (first_env given)
     end ← styled_commands given (commands given) (codes "every picture") (A_picture at)
-        (configuration env first_picture inside)
-    nothing_after (compiled end.picture) (after_spaces end.list.rest)
+        (first_configuration env inside)
+    nothing_after (compiled end.picture end.units) (after_spaces end.list.rest)
 
   -- a whole source: `\begin{tikzpicture}`, options, commands and `\end{tikzpicture}`
   unfoldable pub document : Unread → Answer Compiled

@@ -17,7 +17,7 @@ use Rattle.tk_picture.specs.declared.commands.Beginning as code_beginning
 use Rattle.tk_picture.specs.declared.commands.Beginning.TheVariants as beginnings
 use Rattle.tk_picture.specs.Commands.{BlockOpener, A_picture, A_scope, A_group, Beginning, Begins_path, Opens_group}
 use Rattle.tk_picture.specs.Commands.{Closes_group, Begins_environment, Ends_environment, Begins_later, Begins_other}
-use Rattle.tk_picture.specs.Progress.{Progress, progress}
+use Rattle.tk_picture.specs.Progress.{Progress, progress_at}
 
 -- how far the run has come, where no path is being read
 abbrev pub place_of_run : Drawer → Unread → Configuration
@@ -25,7 +25,7 @@ place_of_run d list = configuration_of d no_path list
 
 -- what comes back
 abbrev pub progress_of : Drawer → Unread → Progress
-progress_of d list = progress (picture_of d no_path) list
+progress_of d list = progress_at (place_of_run d list)
 
 -- what a part leaves
 abbrev pub flow_of : Drawer → Unread → code_flow.Flow → Flow Configuration Progress
@@ -52,3 +52,4 @@ begun_of beginnings.Other = Begins_other
 pub record IsNew (d : Drawer) : Type 0 where
   pub env : env_of d.state ≡ first_env (given_to d)
   pub picture : picture_of d no_path ≡ first_picture
+  pub units : d.state.units ≡ 0

@@ -1,10 +1,9 @@
 //! Whole sources.
 
 ghost use Rattle.std.specs.Prelude.{◌≡◌, ◌≤◌, List, Ok, Err, length, take, IfOk, IfErr, OnOk, IfSome, codes, unwrap_or};
-ghost use Rattle.std.specs.List.{AllByRecursion};
 ghost use Rattle.std.specs.Str.{IsUtf8};
 ghost use Rattle.tk_item.specs.Frame.{IsProperFrame};
-ghost use Rattle.tk_svg.specs.Fitting.{Fits, IsPath};
+ghost use Rattle.tk_svg.specs.Fitting.{Fits};
 ghost use Rattle.tk_token.specs.Refusals.{Gives, OnFault};
 ghost use Rattle.tk_token.specs.Spaces.{after_spaces};
 ghost use Rattle.tk_expand.specs.Tells.{Tells};
@@ -77,7 +76,6 @@ pub fn compile(alloc: Global, source: &[u8], asked: Asked) -> Result<Compiled, R
 
     // The drawing can be written as a document, and a fault has a line and a column.
     ensures fits { IfOk result (λ c. Fits c.drawing) }
-    ensures paths { IfOk result (λ c. AllByRecursion IsPath c.drawing.items) }
     ensures place { IfErr result (λ e. OnFault e (λ f. f.at ≤ length source.now)) }
     ensures text { IfErr result (λ e. OnFault e (λ f. IsUtf8 (take f.at source.now))) }
 {
@@ -97,7 +95,7 @@ pub fn compile(alloc: Global, source: &[u8], asked: Asked) -> Result<Compiled, R
 #[tactic(auto, unfolding(crate::specs::Documents::document))]
 fn document(drawer: &mut Drawer, input: &mut Input) -> Result<(), Refusal>
     requires { IsNew drawer.old }
-    ensures gives { Gives (λ _. compiled (picture_of drawer.new no_path)) result
+    ensures gives { Gives (λ _. compiled (picture_of drawer.new no_path) drawer.new.state.units) result
         (document (given_to drawer.old) input.old) }
     ensures sound { OnOk result (IsSound drawer.new) }
 {
@@ -113,8 +111,8 @@ fn document(drawer: &mut Drawer, input: &mut Input) -> Result<(), Refusal>
 #[tactic(auto, unfolding(crate::specs::Documents::picture_behind))]
 fn picture(drawer: &mut Drawer, input: &mut Input, at: u32) -> Result<(), Refusal>
     requires { IsNew drawer.old }
-    ensures gives { Gives (λ _. compiled (picture_of drawer.new no_path)) result (picture_behind (given_to drawer.old)
-        at input.old) }
+    ensures gives { Gives (λ _. compiled (picture_of drawer.new no_path) drawer.new.state.units) result
+        (picture_behind (given_to drawer.old) at input.old) }
     ensures sound { OnOk result (IsSound drawer.new) }
 {
     input.expect_name(Code::Unbuilt, b"tikzpicture")?;
@@ -151,9 +149,8 @@ fn expect_nothing(input: &mut Input) -> Result<(), Fault>
 fn compiled(drawer: Drawer, family: Text) -> Compiled
     requires sound { IsSound drawer }
     requires family { family ≡ codes "monospace" }
-    ensures compiled { result ≡ compiled (picture_of drawer no_path) }
+    ensures compiled { result ≡ compiled (picture_of drawer no_path) drawer.state.units }
     ensures fits { Fits result.drawing }
-    ensures paths { AllByRecursion IsPath result.drawing.items }
 {
     let units = drawer.state.used();
     let Drawer { items, frame, .. } = drawer;

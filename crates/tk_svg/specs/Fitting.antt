@@ -16,11 +16,6 @@ abbrev pub BeginsWithMove : List Seg → Type 0
 BeginsWithMove (Move p ∷ segs) = Unit {0}
 BeginsWithMove _ = ⊥
 
--- an item that is a path
-abbrev pub IsPath : Item → Type 0
-IsPath (Path segs fill stroke) = Unit {0}
-IsPath (Label label) = ⊥
-
 -- a path that is drawn has a width that is not negative, and a miter limit of at least one
 abbrev pub FitsStroke : Option Stroke → Type 0
 FitsStroke None = Unit {0}

@@ -2,14 +2,14 @@ use Rattle.std.proofs.Common.{rules, arith, ap, ◌∙◌}
 use Rattle.tk_path.specs.CurrentPaths.{no_path}
 use Rattle.tk_keys.specs.Given.{Given}
 use Rattle.tk_path.specs.declared.drawer.Drawer.{Drawer}
-use Rattle.tk_path.specs.Views.{style_name, given_to, lookahead_of}
+use Rattle.tk_path.specs.Views.{style_name, given_to, picture_of, lookahead_of}
 use Rattle.tk_picture.specs.Views.{place_of_run, progress_of, opener_of}
 use Rattle.tk_path.proofs.Kept.{keeps_then, same_given, paid_keeps}
 use Rattle.tk_expr.proofs.Runs.{evaluated_is_the_answer}
 use Rattle.std.proofs.lemmas.Result.{err_from_is_err_and}
 use Rattle.tk_expr.specs.Evaluated.{evaluated}
 use Rattle.tk_keys.specs.State.{State, env_of, given_of}
-use Rattle.tk_path.specs.Configurations.{Configuration, configuration}
+use Rattle.tk_path.specs.Configurations.{Configuration}
 use Rattle.tk_picture.proofs.Fitting.{sound_paid, sound_kept}
 use Rattle.tk_picture.proofs.Scopes.{scope_fails, scope_ends}
 use Rattle.tk_picture.proofs.Loops.{styled_work, front_fails, taken_work, commands_more, commands_finish, command_fails, command_less}
@@ -116,17 +116,17 @@ scope-styled_commands-requires t c =
     let short = c.in_ok-expect_named.ensures.shorter in
     let budget = ap (λ (s : State). s.budget) c.in_ok-open.ensures.opened in
     let units = ap (λ (s : State). s.units) c.in_ok-open.ensures.opened in
-    (omega (arith, short, budget, units), record { items = c.requires.sound.items; paths = c.requires.sound.paths; proper = c.requires.sound.proper })
+    (omega (arith, short, budget, units), record { items = c.requires.sound.items; proper = c.requires.sound.proper })
 
 pub scope-returns-in_err-styled_commands-clause-gives : goal.scope-returns-in_err-styled_commands-clause-gives
 scope-returns-in_err-styled_commands-clause-gives t c opener =
     let p = err_from_is_err_and c.from_residual-in_err-styled_commands.result c.from_residual-in_err-styled_commands.ensures.1 in
-    let d : State → Configuration = λ s. configuration (env_of c.open.new.self) (record {
-      items = c.args.drawer.now.items;
-      frame = c.args.drawer.now.frame;
+    let d : State → Configuration = λ s. record {
+      env = env_of c.open.new.self;
+      picture = picture_of c.args.drawer.now no_path;
+      list = c.expect_named.new.input;
       units = s.units;
-      path = no_path;
-    }) c.expect_named.new.input in
+    } in
     rw (p.1, p.2) (scope_fails (given_to c.args.drawer.now) c.args.first opener (place_of_run c.args.drawer.now c.args.input.now)
     c.expect_named.new.input (env_of c.open.new.self) c.in_ok-expect_named.ensures.gives c.in_ok-open.ensures.gives
     (given_of evaluated c.open.new.self) (ap (given_of evaluated) c.in_ok-open.ensures.opened) (d c.open.new.self)
@@ -134,12 +134,12 @@ scope-returns-in_err-styled_commands-clause-gives t c opener =
 
 pub scope-returns-clause-gives : goal.scope-returns-clause-gives
 scope-returns-clause-gives t c opener =
-    let d : State → Configuration = λ s. configuration (env_of c.open.new.self) (record {
-      items = c.args.drawer.now.items;
-      frame = c.args.drawer.now.frame;
+    let d : State → Configuration = λ s. record {
+      env = env_of c.open.new.self;
+      picture = picture_of c.args.drawer.now no_path;
+      list = c.expect_named.new.input;
       units = s.units;
-      path = no_path;
-    }) c.expect_named.new.input in
+    } in
     let e = scope_ends (given_to c.args.drawer.now) c.args.first opener (place_of_run c.args.drawer.now c.args.input.now) c.expect_named.new.input
     (env_of c.open.new.self) c.in_ok-expect_named.ensures.gives c.in_ok-open.ensures.gives (given_of evaluated c.open.new.self)
     (ap (given_of evaluated) c.in_ok-open.ensures.opened) (d c.open.new.self) (ap d c.in_ok-open.ensures.opened)

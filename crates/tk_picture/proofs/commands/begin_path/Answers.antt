@@ -1,10 +1,10 @@
 use Rattle.std.proofs.Common.{◌∙◌}
-use Rattle.std.proofs.lemmas.Result.{err_from_is_err_and}
+use Rattle.std.proofs.lemmas.Result.{err_from_is_err_and, on_ok_weaker}
 use Rattle.tk_expr.specs.Evaluated.{evaluated}
 use Rattle.tk_expr.proofs.Runs.{evaluated_is_the_answer}
 use Rattle.tk_path.specs.CurrentPaths.{no_path}
 use Rattle.tk_path.specs.Views.{given_to}
-use Rattle.tk_path.proofs.Kept.{same_given}
+use Rattle.tk_path.proofs.Kept.{same_given, drawn_then}
 use Rattle.tk_picture.specs.Views.{place_of_run}
 use Rattle.tk_picture.proofs.Drawing.{style_fails, style_goes}
 use Rattle.tk_picture.proofs.commands.begin_path.Goals as goal
@@ -26,3 +26,8 @@ returns-clause-gives c rest =
     (given_to c.run_style.new.self) (place_of_run c.run_style.new.self rest) later (c.in_ok-run_style.ensures.gives evaluated evaluated_is_the_answer
     no_path rest))
     (c.run_written.ensures.gives evaluated evaluated_is_the_answer no_path rest)
+
+pub returns-clause-kept : goal.returns-clause-kept
+returns-clause-kept c =
+    on_ok_weaker c.run_written.result (λ kept. drawn_then c.args.drawer.now c.run_style.new.self c.run_written.new.self (drawn_then c.args.drawer.now c.unpaint.new.drawer
+    c.run_style.new.self c.unpaint.ensures.kept c.in_ok-run_style.ensures.kept) kept) c.run_written.ensures.kept

@@ -66,4 +66,4 @@ returns-clause-compiled c =
 pub document-requires : goal.document-requires
 document-requires c =
     let units = c.in_ok-new.ensures.units in
-    record { env = c.in_ok-new.ensures.env evaluated; picture = search rules }
+    record { env = c.in_ok-new.ensures.env evaluated; picture = search rules; units = units }

@@ -6,9 +6,9 @@ use Rattle.tk_expand.specs.Unread.{unread}
 use Rattle.tk_expr.specs.Evaluated.{evaluated}
 use Rattle.tk_expr.proofs.Runs.{evaluated_is_the_answer}
 use Rattle.tk_keys.specs.State.{State, env_of, given_of}
-use Rattle.tk_path.specs.Configurations.{Configuration, configuration, reached}
+use Rattle.tk_path.specs.Configurations.{Configuration, reached}
 use Rattle.tk_path.specs.Keys.{with_list, with_keys}
-use Rattle.tk_path.specs.Views.{given_to, configuration_of}
+use Rattle.tk_path.specs.Views.{given_to, picture_of, configuration_of}
 use Rattle.tk_path.proofs.Levels.{list_read, inner_fails, inner_ends}
 use Rattle.tk_path.proofs.drawer.Drawer.inner_measures.Goals as goal
 
@@ -17,12 +17,12 @@ returns-in_err-run_keys-clause-gives c path =
     let p = err_from_is_err_and c.from_residual-in_err-run_keys.result c.from_residual-in_err-run_keys.ensures.1 in
     let rest = unread c.option_list.new.input.rest c.args.input.now.end in
     let start = configuration_of c.args.self.now path c.args.input.now in
-    let d : State → Configuration = λ s. configuration (env_of c.open.new.self) (record {
-      items = c.args.self.now.items;
-      frame = c.args.self.now.frame;
+    let d : State → Configuration = λ s. record {
+      env = env_of c.open.new.self;
+      picture = picture_of c.args.self.now path;
+      list = rest;
       units = s.units;
-      path = path;
-    }) rest in
+    } in
     rw (p.1, p.2) (inner_fails (given_to c.args.self.now) (given_of evaluated c.open.new.self) c.args.at start (d c.open.new.self)
     (reached c.in_ok-list.list.items (with_list start rest)) (env_of c.open.new.self)
     (ap (given_of evaluated) c.in_ok-open.ensures.opened) (list_read c.args.at start c.in_ok-list.list.items c.option_list.new.input.rest
@@ -34,12 +34,12 @@ pub returns-clause-gives : goal.returns-clause-gives
 returns-clause-gives c path =
     let rest = unread c.option_list.new.input.rest c.args.input.now.end in
     let start = configuration_of c.args.self.now path c.args.input.now in
-    let d : State → Configuration = λ s. configuration (env_of c.open.new.self) (record {
-      items = c.args.self.now.items;
-      frame = c.args.self.now.frame;
+    let d : State → Configuration = λ s. record {
+      env = env_of c.open.new.self;
+      picture = picture_of c.args.self.now path;
+      list = rest;
       units = s.units;
-      path = path;
-    }) rest in
+    } in
     let e = inner_ends (given_to c.args.self.now) (given_of evaluated c.open.new.self) c.args.at start (d c.open.new.self)
     (reached c.in_ok-list.list.items (with_list start rest)) (env_of c.open.new.self)
     (ap (given_of evaluated) c.in_ok-open.ensures.opened) (list_read c.args.at start c.in_ok-list.list.items c.option_list.new.input.rest
