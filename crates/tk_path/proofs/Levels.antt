@@ -12,10 +12,11 @@ use Rattle.tk_token.specs.Refusals.{Fails}
 use Rattle.tk_token.proofs.Answering.{then_is, fails_then, fails_as}
 use Rattle.tk_keys.specs.Environment.{Env, level}
 use Rattle.tk_keys.specs.Given.{Given}
-use Rattle.tk_path.specs.declared.measures.Measures.{Measures}
+use Rattle.tk_outline.specs.declared.measures.Measures.{Measures}
 use Rattle.tk_path.specs.Configurations.{Configuration, Reached, reached, Lookahead, ahead_of}
 use Rattle.tk_path.specs.Keys.{with_env, with_list, option_list, with_keys, options_from, options_ahead}
-use Rattle.tk_path.specs.Measures.{measures_of, inner_measures}
+use Rattle.tk_path.specs.Measures.{inner_measures}
+use Rattle.tk_outline.specs.Measures.{measures_of}
 
 -- options that may stand next, once the token in front was taken
 pub ahead_goes : (given : Given) (c : Configuration) (first : Lookahead) → ahead_of given c ≡ Ok first

@@ -6,11 +6,9 @@ pub mod KeyMoves
 pub mod Levels
 pub mod Loops
 pub mod MeasureMoves
-pub mod Meshing
 pub mod OperationMoves
 pub mod PathMoves
 pub mod Places
 pub mod TargetMoves
-pub mod Tracing
 pub mod Unbounded
 pub mod WordMoves

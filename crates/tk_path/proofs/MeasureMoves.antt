@@ -20,7 +20,8 @@ use Rattle.tk_keys.proofs.DeedPlaces.{EvaluatesAt}
 use Rattle.tk_keys.proofs.Entries.{EnvAt}
 use Rattle.tk_path.specs.Configurations.{Configuration, Lookahead, place_ahead}
 use Rattle.tk_path.specs.Keys.{with_env}
-use Rattle.tk_path.specs.Measures.{inner_measures, measures_from, radii_by, radii_in, angle_in, arc_in, sweep_of}
+use Rattle.tk_outline.specs.Measures.{radii_by, radii_in, angle_in, arc_in, sweep_of}
+use Rattle.tk_path.specs.Measures.{inner_measures, measures_from}
 use Rattle.tk_path.proofs.Places.{Here, HereWith, Taken, AnyValue, passed, place_taken}
 use Rattle.tk_path.proofs.KeyMoves.{keys_here, list_here, put_back_here}
 

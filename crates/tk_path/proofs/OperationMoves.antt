@@ -25,17 +25,17 @@ use Rattle.tk_keys.proofs.Spending.{full_spends}
 use Rattle.tk_keys.proofs.Standing.{both_at}
 use Rattle.tk_path.specs.declared.coordinate.Sign.{Sign}
 use Rattle.tk_path.specs.declared.coordinate.Sign.TheVariants as signs
-use Rattle.tk_path.specs.declared.measures.ArcMeasures.{ArcMeasures}
-use Rattle.tk_path.specs.declared.measures.Measures.{Measures}
-use Rattle.tk_path.specs.declared.current_path.Goal.{Goal}
-use Rattle.tk_path.specs.declared.current_path.Mesh.{Mesh}
+use Rattle.tk_outline.specs.declared.measures.ArcMeasures.{ArcMeasures}
+use Rattle.tk_outline.specs.declared.measures.Measures.{Measures}
+use Rattle.tk_outline.specs.declared.current_path.Goal.{Goal}
+use Rattle.tk_outline.specs.declared.current_path.Mesh.{Mesh}
 use Rattle.tk_path.specs.declared.words.PathWord.{PathWord}
 use Rattle.tk_path.specs.declared.words.PathWord.TheVariants as words
 use Rattle.tk_path.specs.declared.words.Words.TheVariants.{Controls}
 use Rattle.tk_path.specs.Configurations.{Configuration, Reached, Lookahead, place_ahead}
 use Rattle.tk_path.specs.Coordinates.{Written}
-use Rattle.tk_path.specs.CurrentPaths.{CurrentPath, subpath_start, with_close, current_point, circled, boxed, arced}
-use Rattle.tk_path.specs.Meshes.{Meshed, mesh_drawn}
+use Rattle.tk_outline.specs.CurrentPaths.{CurrentPath, subpath_start, with_close, current_point, circled, boxed, arced}
+use Rattle.tk_outline.specs.Meshes.{Meshed, mesh_drawn}
 use Rattle.tk_path.specs.Operations.{Control, Known, From_end, Way, Straight, Cornered, Curved, control_point, way_drawn, way_to}
 use Rattle.tk_path.specs.Operations.{goes, control_ahead, second_control, curve_behind, first_control, curve_way, curve, rectangle, text_behind}
 use Rattle.tk_path.specs.Operations.{circle_with, circle_measures, circle, arc_with, arc_measures, arc, grid_to, grid_by, grid, to, operation}

@@ -16,7 +16,7 @@ use Rattle.tk_path.specs.declared.path.PathOpener.{PathOpener}
 use Rattle.tk_path.specs.declared.path.PathOpener.TheVariants as openers
 use Rattle.tk_path.specs.declared.words.Words.TheVariants.{Operations}
 use Rattle.tk_path.specs.Configurations.{Configuration, Lookahead, lookahead, place_ahead}
-use Rattle.tk_path.specs.CurrentPaths.{moved_to}
+use Rattle.tk_outline.specs.CurrentPaths.{moved_to}
 use Rattle.tk_path.specs.Flow.{Goes_on, Finishes, go_on}
 use Rattle.tk_path.specs.Keys.{with_env}
 use Rattle.tk_path.specs.Pictures.{Picture, drawn_by, drawn}

@@ -10,7 +10,7 @@ use Rattle.tk_path.specs.declared.words.PathWord.TheVariants as words
 use Rattle.tk_path.specs.declared.words.Words.TheVariants.{Nodes, Targets}
 use Rattle.tk_path.specs.Configurations.{Configuration, Lookahead, place_ahead}
 use Rattle.tk_path.specs.Coordinates.{Written}
-use Rattle.tk_path.specs.CurrentPaths.{CurrentPath}
+use Rattle.tk_outline.specs.CurrentPaths.{CurrentPath}
 use Rattle.tk_path.specs.Targets.{with_current, reference, Target, A_coordinate, The_start, goal_of, coordinate_or_node, goal_ahead, target_by}
 use Rattle.tk_path.specs.Targets.{target_ahead}
 use Rattle.tk_path.specs.Words.{begins_coordinate}

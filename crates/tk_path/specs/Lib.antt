@@ -1,10 +1,8 @@
 pub mod Configurations
 pub mod Coordinates
-pub mod CurrentPaths
 pub mod Flow
 pub mod Keys
 pub mod Measures
-pub mod Meshes
 pub mod Operations
 pub mod Paths
 pub mod Pictures

@@ -17,10 +17,10 @@ use Rattle.tk_coord.specs.declared.corners.CornerSign.{CornerSign}
 use Rattle.tk_coord.specs.declared.corners.CornerSign.TheVariants.{HorizontalFirst, VerticalFirst}
 use Rattle.tk_coord.specs.Coordinates.{corner_between}
 use Rattle.tk_keys.specs.Given.{Given}
-use Rattle.tk_path.specs.declared.measures.Measures.{Measures}
-use Rattle.tk_path.specs.declared.measures.ArcMeasures.{ArcMeasures}
-use Rattle.tk_path.specs.declared.current_path.Goal.{Goal}
-use Rattle.tk_path.specs.declared.current_path.Mesh.{Mesh}
+use Rattle.tk_outline.specs.declared.measures.Measures.{Measures}
+use Rattle.tk_outline.specs.declared.measures.ArcMeasures.{ArcMeasures}
+use Rattle.tk_outline.specs.declared.current_path.Goal.{Goal}
+use Rattle.tk_outline.specs.declared.current_path.Mesh.{Mesh}
 use Rattle.tk_path.specs.declared.words.PathWord.{PathWord}
 use Rattle.tk_path.specs.declared.words.PathWord.TheVariants as words
 use Rattle.tk_path.specs.declared.words.Words.TheVariants.{Controls}
@@ -29,12 +29,12 @@ use Rattle.tk_path.specs.declared.coordinate.Sign.TheVariants as signs
 use Rattle.tk_path.specs.Configurations.{Configuration, with_stream, Reached, reached, Lookahead, place_ahead, must_be}
 use Rattle.tk_path.specs.Configurations.{ahead_of}
 use Rattle.tk_path.specs.Coordinates.{Written, coordinate_from, coordinate_point}
-use Rattle.tk_path.specs.CurrentPaths.{CurrentPath, subpath_start, in_subpath, standing_at, with_close, moved_to}
-use Rattle.tk_path.specs.CurrentPaths.{with_pieces, circled, boxed, arced}
+use Rattle.tk_outline.specs.CurrentPaths.{CurrentPath, subpath_start, in_subpath, standing_at, with_close, moved_to}
+use Rattle.tk_outline.specs.CurrentPaths.{with_pieces, circled, boxed, arced}
 use Rattle.tk_path.specs.Keys.{put_back, with_list}
-use Rattle.tk_path.specs.Measures.{measures_of, inner_measures, measures_from, length_across, length_upward, radii_in}
-use Rattle.tk_path.specs.Measures.{arc_in, sweep_of}
-use Rattle.tk_path.specs.Meshes.{mesh_drawn}
+use Rattle.tk_outline.specs.Measures.{measures_of, length_across, length_upward, radii_in, arc_in, sweep_of}
+use Rattle.tk_path.specs.Measures.{inner_measures, measures_from}
+use Rattle.tk_outline.specs.Meshes.{mesh_drawn}
 use Rattle.tk_path.specs.Targets.{with_current, origin_of, here, reference, Target, A_coordinate, The_start, goal_of}
 use Rattle.tk_path.specs.Targets.{goal_ahead, target_ahead}
 use Rattle.tk_path.specs.Words.{word_ahead, past_word}

@@ -14,7 +14,7 @@ use Rattle.tk_path.specs.declared.path.PathOpener.TheVariants as openers
 use Rattle.tk_path.specs.declared.words.Words.TheVariants.{Operations}
 use Rattle.tk_path.specs.Configurations.{Configuration, Lookahead, place_ahead, work_at, ahead_of}
 use Rattle.tk_path.specs.Coordinates.{coordinate_from}
-use Rattle.tk_path.specs.CurrentPaths.{moved_to}
+use Rattle.tk_outline.specs.CurrentPaths.{moved_to}
 use Rattle.tk_path.specs.Flow.{Flow, Goes_on, Finishes, go_on}
 use Rattle.tk_path.specs.Keys.{options, with_env}
 use Rattle.tk_path.specs.Operations.{operation}

@@ -7,7 +7,7 @@ use Rattle.tk_item.specs.declared.Seg.{Seg}
 use Rattle.tk_item.specs.Frame.{points_of_path, round_points}
 use Rattle.tk_look.specs.declared.Look.{Look}
 use Rattle.tk_look.specs.Strokes.{look_fill, look_stroke, look_reach}
-use Rattle.tk_path.specs.CurrentPaths.{CurrentPath, no_path}
+use Rattle.tk_outline.specs.CurrentPaths.{CurrentPath, no_path}
 
 -- a picture so far: its items, the frame round them, and the path that is being read
 pub record Picture : Type 0 where

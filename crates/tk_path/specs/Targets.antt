@@ -6,13 +6,13 @@ use Rattle.tk_token.specs.Answers.{Answer, ◌>>=◌, fault}
 use Rattle.tk_expand.specs.Reading.{is_there}
 use Rattle.tk_keys.specs.Environment.{Env}
 use Rattle.tk_keys.specs.Given.{Given}
-use Rattle.tk_path.specs.declared.current_path.Goal.{Goal}
+use Rattle.tk_outline.specs.declared.current_path.Goal.{Goal}
 use Rattle.tk_path.specs.declared.words.PathWord.{PathWord}
 use Rattle.tk_path.specs.declared.words.PathWord.TheVariants.{Cycle}
 use Rattle.tk_path.specs.declared.words.Words.TheVariants.{Nodes, Targets}
 use Rattle.tk_path.specs.Configurations.{Configuration, Reached, reached, Lookahead, place_ahead, ahead_of}
 use Rattle.tk_path.specs.Coordinates.{Written, leads, coordinate_from, coordinate_point}
-use Rattle.tk_path.specs.CurrentPaths.{CurrentPath, goal, current_point, reference_point}
+use Rattle.tk_outline.specs.CurrentPaths.{CurrentPath, goal, current_point, reference_point}
 use Rattle.tk_path.specs.Pictures.{with_path}
 use Rattle.tk_path.specs.Words.{begins_coordinate, word_from}
 

@@ -1,11 +1,8 @@
 -- What the code holds, as the definitions see it.
-use Rattle.std.specs.Prelude.{◌≡◌, ℕ, codes, List, [], ◌∷◌, Option, IfSome, Result, Ok, Err}
-use Rattle.tk_affine.specs.declared.AffFault.{AffFault}
+use Rattle.std.specs.Prelude.{◌≡◌, ℕ, codes, List, Option, IfSome}
 use Rattle.std.specs.List.{AllByRecursion}
-use Rattle.tk_item.specs.declared.Point.{Point}
-use Rattle.tk_item.specs.declared.Seg.{Seg}
 use Rattle.tk_item.specs.Frame.{IsProperFrame}
-use Rattle.tk_svg.specs.Fitting.{BeginsWithMove, FitsItem}
+use Rattle.tk_svg.specs.Fitting.{FitsItem}
 use Rattle.tk_token.specs.declared.Tok.{Tok}
 use Rattle.tk_expand.specs.Unread.{Unread}
 use Rattle.tk_expr.specs.Evaluated.{evaluated}
@@ -25,7 +22,7 @@ use Rattle.tk_path.specs.declared.targets.Target as code_target
 use Rattle.tk_path.specs.declared.targets.Target.TheVariants as targets
 use Rattle.tk_path.specs.Configurations.{Configuration, Reached, reached, Lookahead, lookahead}
 use Rattle.tk_path.specs.Coordinates.{Written}
-use Rattle.tk_path.specs.CurrentPaths.{CurrentPath}
+use Rattle.tk_outline.specs.CurrentPaths.{CurrentPath}
 use Rattle.tk_path.specs.Flow.{Flow, Goes_on, Finishes}
 use Rattle.tk_path.specs.Operations.{Control, Known, From_end, Way, Straight, Cornered, Curved}
 use Rattle.tk_path.specs.Pictures.{Picture}
@@ -98,18 +95,3 @@ pub record KeepsDrawn (old new : Drawer) : Type 0 where
   pub state : Keeps old.state new.state
   pub items : new.items ≡ old.items
   pub proper : IfSome old.frame IsProperFrame → IfSome new.frame IsProperFrame
-
--- the pieces of a path, if there are some
-abbrev pub BeginsOrNone : List Seg → Type 0
-BeginsOrNone [] = Unit {0}
-BeginsOrNone (seg ∷ segs) = BeginsWithMove (seg ∷ segs)
-
--- the first piece of a path is a Move, and there is one where a subpath goes on
-pub record IsTraced (segs : List Seg) (start : Option Point) : Type 0 where
-  pub first : BeginsOrNone segs
-  pub begun : IfSome start (λ _. BeginsWithMove segs)
-
--- what became of a path on which something was to be drawn
-abbrev pub Draws : {X : Type 0} → CurrentPath → Result X AffFault → Result CurrentPath AffFault → Type 0
-Draws new (Ok done) drawn = drawn ≡ Ok new
-Draws new (Err fault) drawn = drawn ≡ Err fault

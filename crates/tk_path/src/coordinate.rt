@@ -10,7 +10,7 @@ ghost use Rattle.tk_expand.specs.Unread.{Unread};
 ghost use Rattle.tk_expr.specs.Evaluated.{evaluated};
 ghost use Rattle.tk_coord.specs.Coordinates.{target_of};
 ghost use Rattle.tk_path.specs.Coordinates as spec;
-ghost use Rattle.tk_path.specs.CurrentPaths.{CurrentPath as ACurrentPath};
+ghost use Rattle.tk_outline.specs.CurrentPaths.{CurrentPath as ACurrentPath};
 ghost use Rattle.tk_path.specs.Views.{given_to, configuration_of, lookahead_of, reached_at, written_of, OnlyPays};
 
 use crate::drawer::Drawer;

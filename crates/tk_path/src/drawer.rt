@@ -9,15 +9,15 @@ ghost use Rattle.tk_token.specs.Refusals.{Gives};
 ghost use Rattle.tk_path.specs.Configurations.{token_ahead, ahead_of};
 ghost use Rattle.tk_path.specs.Pictures as pictures;
 ghost use Rattle.tk_path.specs.Pictures.{drawn};
-ghost use Rattle.tk_path.specs.CurrentPaths.{CurrentPath as ACurrentPath, no_path};
+ghost use Rattle.tk_outline.specs.CurrentPaths.{CurrentPath as ACurrentPath, no_path};
 ghost use Rattle.tk_path.specs.Views.{given_to, picture_of, configuration_of, lookahead_of, OnlyPays, IsSound};
 
-use crate::current_path::CurrentPath;
 use std::alloc::AllocError;
 use tk_expand::Input;
 use tk_item::{Frame, Item, Items, Segs, widen};
 use tk_keys::State;
 use tk_look::{Look, look_fill, look_reach, look_stroke};
+use tk_outline::CurrentPath;
 use tk_token::{Code, Refusal, Tok};
 
 /// What a part of a run leaves: more parts follow, or the end was met.

@@ -13,7 +13,7 @@ ghost use Rattle.tk_keys.specs.Keys.{run_at};
 ghost use Rattle.tk_expr.specs.Evaluates.{Evaluation, IsEvaluation};
 ghost use Rattle.tk_keys.specs.State.{env_of, given_of};
 ghost use Rattle.tk_path.specs.Keys as keys;
-ghost use Rattle.tk_path.specs.CurrentPaths.{CurrentPath as ACurrentPath};
+ghost use Rattle.tk_outline.specs.CurrentPaths.{CurrentPath as ACurrentPath};
 ghost use Rattle.tk_path.specs.Views.{style_name, configuration_of, lookahead_of, KeepsDrawn};
 
 use crate::drawer::Drawer;

@@ -3,7 +3,6 @@
 
 mod closing;
 mod coordinate;
-mod current_path;
 mod drawer;
 mod keys;
 mod laws;

@@ -5,7 +5,7 @@ ghost use Rattle.tk_token.specs.Refusals.{Gives};
 ghost use Rattle.tk_expand.specs.Unread.{Unread};
 ghost use Rattle.tk_svg.specs.Fitting.{BeginsWithMove};
 ghost use Rattle.tk_keys.specs.State.{env_of};
-ghost use Rattle.tk_path.specs.CurrentPaths.{CurrentPath as ACurrentPath, in_subpath, with_pieces};
+ghost use Rattle.tk_outline.specs.CurrentPaths.{CurrentPath as ACurrentPath, in_subpath, with_pieces};
 ghost use Rattle.tk_path.specs.Operations as spec;
 ghost use Rattle.tk_path.specs.Operations.{Cornered};
 ghost use Rattle.tk_path.specs.Targets.{A_coordinate, The_start, origin_of};
@@ -14,13 +14,13 @@ ghost use Rattle.tk_path.specs.Views.{given_to, configuration_of, lookahead_of, 
 ghost use Rattle.tk_path.specs.Views.{control_of, way_of, OnlyPays, KeepsDrawn};
 
 use crate::coordinate::{Sign, Written};
-use crate::current_path::{CurrentPath, Goal};
 use crate::drawer::Drawer;
 use crate::targets::Target;
 use crate::words::{PathWord, Words};
 use tk_coord::{CornerSign, corner_between};
 use tk_expand::Input;
 use tk_item::{Point, Seg};
+use tk_outline::{CurrentPath, Goal};
 use tk_token::{Code, Refusal, Tok};
 
 /// The second control point of a curve.

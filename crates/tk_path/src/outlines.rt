@@ -3,16 +3,15 @@
 ghost use Rattle.std.specs.Prelude.{◌≡◌, OnOk};
 ghost use Rattle.tk_token.specs.Refusals.{Gives};
 ghost use Rattle.tk_expand.specs.Unread.{Unread};
-ghost use Rattle.tk_path.specs.CurrentPaths.{CurrentPath as ACurrentPath};
+ghost use Rattle.tk_outline.specs.CurrentPaths.{CurrentPath as ACurrentPath};
 ghost use Rattle.tk_path.specs.Operations as spec;
 ghost use Rattle.tk_path.specs.Views.{given_to, configuration_of, lookahead_of, reached_at, OnlyPays, KeepsDrawn};
 
 use crate::coordinate::written_text;
-use crate::current_path::{CurrentPath, Goal};
 use crate::drawer::{Drawer, misfit};
-use crate::measures::{ArcMeasures, ArcText, Measures, arc_in, radii_in};
 use tk_affine::answer_at;
 use tk_expand::{Input, is_there};
+use tk_outline::{ArcMeasures, ArcText, CurrentPath, Goal, Measures, arc_in, radii_in};
 use tk_token::{Refusal, Tok};
 
 impl Drawer {

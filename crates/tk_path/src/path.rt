@@ -6,17 +6,17 @@ ghost use Rattle.tk_token.specs.Refusals.{Gives};
 ghost use Rattle.tk_expand.specs.Reading.{is_there as stands_there};
 ghost use Rattle.tk_expr.specs.Evaluates.{Evaluation, IsEvaluation};
 ghost use Rattle.tk_keys.specs.State.{given_of, Keeps};
-ghost use Rattle.tk_path.specs.CurrentPaths.{no_path};
+ghost use Rattle.tk_outline.specs.CurrentPaths.{no_path};
 ghost use Rattle.tk_path.specs.Paths as paths;
 ghost use Rattle.tk_path.specs.Paths.{stretch};
 ghost use Rattle.tk_path.specs.Views.{given_to, configuration_of, lookahead_of, path_flow_of, IsSound, KeepsDrawn};
 
 use crate::closing::close_level;
-use crate::current_path::CurrentPath;
 use crate::drawer::{Drawer, Flow};
 use crate::targets::begins_coordinate;
 use crate::words::Words;
 use tk_expand::{Input, is_there};
+use tk_outline::CurrentPath;
 use tk_token::{Refusal, Tok};
 
 /// What operations stand in.

@@ -4,7 +4,7 @@ ghost use Rattle.std.specs.Prelude.{◌≡◌, OnOk};
 ghost use Rattle.tk_token.specs.Refusals.{Gives};
 ghost use Rattle.tk_expand.specs.Unread.{Unread};
 ghost use Rattle.tk_keys.specs.State.{env_of};
-ghost use Rattle.tk_path.specs.CurrentPaths.{CurrentPath as ACurrentPath, current_point, reference_point};
+ghost use Rattle.tk_outline.specs.CurrentPaths.{CurrentPath as ACurrentPath, current_point, reference_point};
 ghost use Rattle.tk_path.specs.Targets as spec;
 ghost use Rattle.tk_path.specs.Views.{given_to, configuration_of, lookahead_of, reached_at, written_of, target_of};
 ghost use Rattle.tk_path.specs.Views.{OnlyPays};
@@ -12,11 +12,11 @@ ghost use Rattle.tk_path.specs.Words.{begins_coordinate};
 ghost use Rattle.tk_expand.specs.Reading.{is_there as stands_there};
 
 use crate::coordinate::Written;
-use crate::current_path::{CurrentPath, Goal};
 use crate::drawer::Drawer;
 use crate::words::{PathWord, Words};
 use tk_expand::{Input, is_there};
 use tk_item::Point;
+use tk_outline::{CurrentPath, Goal};
 use tk_token::{Code, Refusal, Tok};
 
 /// What a line, corner or curve goes to.

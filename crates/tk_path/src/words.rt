@@ -4,7 +4,7 @@ ghost use Rattle.std.specs.Prelude.{◌≡◌, ◌∷◌, Some, OnOk, is_some, o
 ghost use Rattle.tk_token.specs.declared.Code.TheVariants.{PathSyntax};
 ghost use Rattle.tk_token.specs.Answers.{◌>>=◌ as ◌followed_by◌, or_fault};
 ghost use Rattle.tk_token.specs.Refusals.{Gives};
-ghost use Rattle.tk_path.specs.CurrentPaths.{CurrentPath as ACurrentPath};
+ghost use Rattle.tk_outline.specs.CurrentPaths.{CurrentPath as ACurrentPath};
 ghost use Rattle.tk_path.specs.Views.{given_to, configuration_of, lookahead_of, reached_at, OnlyPays};
 ghost use Rattle.tk_path.specs.Words as spec;
 

@@ -7,7 +7,7 @@ use Rattle.tk_path.specs.declared.drawer.Drawer.{Drawer}
 use Rattle.tk_path.specs.declared.drawer.Flow as code_flow
 use Rattle.tk_path.specs.declared.drawer.Flow.TheVariants as flows
 use Rattle.tk_path.specs.Configurations.{Configuration}
-use Rattle.tk_path.specs.CurrentPaths.{no_path}
+use Rattle.tk_outline.specs.CurrentPaths.{no_path}
 use Rattle.tk_path.specs.Flow.{Flow, Goes_on, Finishes}
 use Rattle.tk_path.specs.Pictures.{first_picture}
 use Rattle.tk_path.specs.Views.{given_to, picture_of, configuration_of}

@@ -10,7 +10,7 @@ ghost use Rattle.tk_expand.specs.Tells.{Tells};
 ghost use Rattle.tk_picture.specs.declared.Compiled.{Compiled as ACompiled};
 ghost use Rattle.tk_picture.specs.Documents.{is_word, no_frame, compiled, nothing_after, picture_behind, document};
 ghost use Rattle.tk_picture.specs.Outcome.{IsOutcome, font_units};
-ghost use Rattle.tk_path.specs.CurrentPaths.{no_path};
+ghost use Rattle.tk_outline.specs.CurrentPaths.{no_path};
 ghost use Rattle.tk_path.specs.Views.{given_to, picture_of, IsSound};
 ghost use Rattle.tk_picture.specs.Views.{IsNew};
 

@@ -1,5 +1,5 @@
 use Rattle.std.proofs.Common.{rules, arith, ap, ◌∙◌}
-use Rattle.tk_path.specs.CurrentPaths.{no_path}
+use Rattle.tk_outline.specs.CurrentPaths.{no_path}
 use Rattle.tk_keys.specs.Given.{Given}
 use Rattle.tk_path.specs.declared.drawer.Drawer.{Drawer}
 use Rattle.tk_path.specs.Views.{style_name, given_to, picture_of, lookahead_of}

@@ -2,7 +2,7 @@ use Rattle.std.proofs.Common.{◌∙◌}
 use Rattle.std.proofs.lemmas.Result.{err_from_is_err_and, on_ok_weaker}
 use Rattle.tk_expr.specs.Evaluated.{evaluated}
 use Rattle.tk_expr.proofs.Runs.{evaluated_is_the_answer}
-use Rattle.tk_path.specs.CurrentPaths.{no_path}
+use Rattle.tk_outline.specs.CurrentPaths.{no_path}
 use Rattle.tk_path.specs.Views.{given_to}
 use Rattle.tk_path.proofs.Kept.{same_given, drawn_then}
 use Rattle.tk_picture.specs.Views.{place_of_run}

@@ -3,7 +3,7 @@ use Rattle.std.proofs.lemmas.Result.{err_from_is_err_and}
 use Rattle.tk_keys.specs.State.{State, given_of, env_of}
 use Rattle.tk_expr.specs.Evaluated.{evaluated}
 use Rattle.tk_picture.specs.Documents.{compiled}
-use Rattle.tk_path.specs.CurrentPaths.{no_path}
+use Rattle.tk_outline.specs.CurrentPaths.{no_path}
 use Rattle.tk_path.specs.Views.{given_to, picture_of}
 use Rattle.tk_picture.specs.Views.{progress_of}
 use Rattle.tk_picture.proofs.Drawing.{first_is, picture_fails, picture_ends}

@@ -3,7 +3,7 @@ use Rattle.tk_token.specs.Refusals.{Gives}
 use Rattle.tk_expr.specs.Evaluates.{Evaluation}
 use Rattle.tk_expr.proofs.Evaluations.{is_evaluated}
 use Rattle.tk_keys.specs.State.{given_of}
-use Rattle.tk_path.specs.CurrentPaths.{no_path}
+use Rattle.tk_outline.specs.CurrentPaths.{no_path}
 use Rattle.tk_path.specs.Paths as paths
 use Rattle.tk_path.specs.Views.{configuration_of}
 use Rattle.tk_path.proofs.drawer.Drawer.run_path.Goals as goal

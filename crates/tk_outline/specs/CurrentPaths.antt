@@ -11,8 +11,8 @@ use Rattle.tk_affine.specs.declared.Matrix.{Matrix}
 use Rattle.tk_geom.specs.Arcs.{arc_pieces}
 use Rattle.tk_geom.specs.Circles.{circle_pieces}
 use Rattle.tk_geom.specs.Rectangles.{rectangle_pieces}
-use Rattle.tk_path.specs.declared.measures.Sweep.{Sweep}
-use Rattle.tk_path.specs.declared.current_path.Goal.{Goal}
+use Rattle.tk_outline.specs.declared.measures.Sweep.{Sweep}
+use Rattle.tk_outline.specs.declared.current_path.Goal.{Goal}
 
 -- its pieces so far, the current point and the point that relative coordinates start from, once there are such, and
 -- where the subpath began that goes on, if one does

@@ -1,8 +1,8 @@
 use Rattle.std.proofs.Common.{subst, sym, ap, ◌∙◌}
-use Rattle.tk_path.specs.CurrentPaths.{CurrentPath}
-use Rattle.tk_path.specs.Views.{IsTraced}
-use Rattle.tk_path.proofs.Tracing.{appended_pieces_trace, circle_added}
-use Rattle.tk_path.proofs.current_path.CurrentPath.circle.Goals as goal
+use Rattle.tk_outline.specs.CurrentPaths.{CurrentPath}
+use Rattle.tk_outline.specs.Tracing.{IsTraced}
+use Rattle.tk_outline.proofs.Tracing.{appended_pieces_trace, circle_added}
+use Rattle.tk_outline.proofs.current_path.CurrentPath.circle.Goals as goal
 
 pub invariant_of-self : goal.invariant_of-self
 invariant_of-self c =

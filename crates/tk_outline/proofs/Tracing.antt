@@ -14,7 +14,7 @@ use Rattle.tk_affine.specs.Inverses.{corner_of}
 use Rattle.tk_geom.specs.Rectangles.{rectangle_pieces}
 use Rattle.tk_geom.specs.GridLines.{GridLine, checked_image, line_pieces}
 use Rattle.tk_geom.specs.Pieces.{xy, appended as with_pieces_behind, Appends}
-use Rattle.tk_path.specs.Views.{BeginsOrNone, IsTraced}
+use Rattle.tk_outline.specs.Tracing.{BeginsOrNone, IsTraced}
 
 -- pieces behind a path
 pub joined_pieces_begin : (old segs : List Seg) → BeginsOrNone old → BeginsOrNone segs → BeginsOrNone (old ++ segs)

@@ -3,9 +3,9 @@ use Rattle.std.specs.Prelude.{ℕ, Ok}
 use Rattle.tk_item.specs.declared.Point.{Point}
 use Rattle.tk_token.specs.Answers.{Answer, ◌>>=◌}
 use Rattle.tk_geom.specs.Grids.{grid_pieces}
-use Rattle.tk_path.specs.declared.current_path.Goal.{Goal}
-use Rattle.tk_path.specs.declared.current_path.Mesh.{Mesh}
-use Rattle.tk_path.specs.CurrentPaths.{CurrentPath, current_point, moved_to, with_pieces}
+use Rattle.tk_outline.specs.declared.current_path.Goal.{Goal}
+use Rattle.tk_outline.specs.declared.current_path.Mesh.{Mesh}
+use Rattle.tk_outline.specs.CurrentPaths.{CurrentPath, current_point, moved_to, with_pieces}
 
 -- a path with a grid, and the units that are paid then
 pub record Meshed : Type 0 where

@@ -5,9 +5,9 @@ ghost use Rattle.tk_svg.specs.Fitting.{BeginsWithMove};
 ghost use Rattle.tk_token.specs.Refusals.{Gives};
 ghost use Rattle.tk_token.specs.Answers.{◌>>=◌ as ◌followed_by◌};
 ghost use Rattle.tk_geom.specs.Arcs.{arc_pieces};
-ghost use Rattle.tk_path.specs.CurrentPaths as spec;
-ghost use Rattle.tk_path.specs.Meshes.{meshed, mesh_drawn};
-ghost use Rattle.tk_path.specs.Views.{BeginsOrNone, Draws};
+ghost use Rattle.tk_outline.specs.CurrentPaths as spec;
+ghost use Rattle.tk_outline.specs.Meshes.{meshed, mesh_drawn};
+ghost use Rattle.tk_outline.specs.Tracing.{BeginsOrNone, Draws};
 
 use crate::measures::Sweep;
 use std::alloc::{AllocError, Global};
@@ -22,23 +22,23 @@ use tk_token::Refusal;
 
 /// A point for a path to go to, and whether the reference point goes there too.
 #[derive(Clone, Copy)]
-pub(crate) struct Goal {
-    pub(crate) point: Point,
-    pub(crate) leads: bool,
+pub struct Goal {
+    pub point: Point,
+    pub leads: bool,
 }
 
 /// The steps of a grid as lengths, and the matrix that takes it.
 #[derive(Clone, Copy)]
-pub(crate) struct Mesh {
-    pub(crate) matrix: Matrix,
-    pub(crate) xstep: Scaled,
-    pub(crate) ystep: Scaled,
+pub struct Mesh {
+    pub matrix: Matrix,
+    pub xstep: Scaled,
+    pub ystep: Scaled,
 }
 
 /// The path that is being read: its pieces so far, the current point and the point that relative coordinates start
 /// from, once there are such, and where the subpath began that goes on, if one does. The first piece is a `Move`.
 #[derive(Drop)]
-pub(crate) struct CurrentPath {
+pub struct CurrentPath {
     segs: Segs,
     current: Option<Point>,
     reference: Option<Point>,
@@ -46,8 +46,8 @@ pub(crate) struct CurrentPath {
 }
 
 impl Model for CurrentPath {
-    ghost use Rattle.tk_path.specs.CurrentPaths.{CurrentPath};
-    ghost use Rattle.tk_path.specs.Views.{IsTraced};
+    ghost use Rattle.tk_outline.specs.CurrentPaths.{CurrentPath};
+    ghost use Rattle.tk_outline.specs.Tracing.{IsTraced};
 
     ghost Value = { CurrentPath };
 
@@ -58,7 +58,7 @@ impl Model for CurrentPath {
 
 impl CurrentPath {
     /// No piece, and no point yet.
-    pub(crate) fn new(alloc: Global) -> CurrentPath
+    pub fn new(alloc: Global) -> CurrentPath
         ensures { result ≡ spec.no_path }
     {
         CurrentPath {
@@ -70,28 +70,28 @@ impl CurrentPath {
     }
 
     /// The current point, which is the origin before any coordinate.
-    pub(crate) fn current_point(&self, origin: &Point) -> Point
+    pub fn current_point(&self, origin: &Point) -> Point
         ensures { result ≡ spec.current_point origin.now self.now }
     {
         self.current.unwrap_or(*origin)
     }
 
     /// The point that relative coordinates start from.
-    pub(crate) fn reference_point(&self, origin: &Point) -> Point
+    pub fn reference_point(&self, origin: &Point) -> Point
         ensures { result ≡ spec.reference_point origin.now self.now }
     {
         self.reference.unwrap_or(*origin)
     }
 
     /// Where the subpath begins to which a piece is added.
-    pub(crate) fn subpath_start(&self, origin: &Point) -> Point
+    pub fn subpath_start(&self, origin: &Point) -> Point
         ensures { result ≡ spec.subpath_start origin.now self.now }
     {
         self.start.unwrap_or(self.current_point(origin))
     }
 
     /// Has both points stay where they are from now on.
-    pub(crate) fn ground(&mut self, origin: &Point)
+    pub fn ground(&mut self, origin: &Point)
         ensures { self.new ≡ spec.grounded origin.now self.old }
     {
         self.current = Some(self.current_point(origin));
@@ -99,7 +99,7 @@ impl CurrentPath {
     }
 
     /// Stands at a goal.
-    pub(crate) fn stand(&mut self, origin: &Point, to: &Goal)
+    pub fn stand(&mut self, origin: &Point, to: &Goal)
         ensures { self.new ≡ spec.standing_at origin.now to.now self.old }
     {
         let reference = if to.leads {
@@ -112,7 +112,7 @@ impl CurrentPath {
     }
 
     /// Moves to a goal; a subpath begins there once a piece follows.
-    pub(crate) fn move_to(&mut self, origin: &Point, to: &Goal)
+    pub fn move_to(&mut self, origin: &Point, to: &Goal)
         ensures { self.new ≡ spec.moved_to origin.now to.now self.old }
     {
         self.stand(origin, to);
@@ -120,7 +120,7 @@ impl CurrentPath {
     }
 
     /// Has a piece follow: where no subpath goes on, one begins at the current point.
-    pub(crate) fn begin(&mut self, origin: &Point) -> Result<(), AllocError>
+    pub fn begin(&mut self, origin: &Point) -> Result<(), AllocError>
         ensures path { OnOk result (self.new ≡ spec.in_subpath origin.now self.old) }
         ensures begins { OnOk result (BeginsWithMove self.new.segs) }
     {
@@ -135,7 +135,7 @@ impl CurrentPath {
     }
 
     /// Adds a piece, once one may follow.
-    pub(crate) fn add(&mut self, piece: Seg) -> Result<(), AllocError>
+    pub fn add(&mut self, piece: Seg) -> Result<(), AllocError>
         requires { BeginsWithMove self.old.segs }
         ensures path { OnOk result (self.new ≡ spec.with_pieces (piece ∷ []) self.old) }
         ensures begins { OnOk result (BeginsWithMove self.new.segs) }
@@ -144,7 +144,7 @@ impl CurrentPath {
     }
 
     /// Closes the subpath that goes on.
-    pub(crate) fn close(&mut self) -> Result<(), AllocError>
+    pub fn close(&mut self) -> Result<(), AllocError>
         requires { BeginsWithMove self.old.segs }
         ensures { OnOk result (self.new ≡ spec.with_close self.old) }
     {
@@ -166,7 +166,7 @@ impl CurrentPath {
     }
 
     /// Adds an ellipse with those radii round the current point. Behind a fault nothing is said of the path.
-    pub(crate) fn circle(
+    pub fn circle(
         &mut self,
         alloc: Global,
         origin: &Point,
@@ -187,7 +187,7 @@ impl CurrentPath {
     }
 
     /// Adds a rectangle from the current point to a goal. Behind a fault nothing is said of the path.
-    pub(crate) fn rectangle(
+    pub fn rectangle(
         &mut self,
         alloc: Global,
         origin: &Point,
@@ -207,7 +207,7 @@ impl CurrentPath {
     }
 
     /// Adds an arc from the current point, between those angles. Behind a fault nothing is said of the path.
-    pub(crate) fn arc(
+    pub fn arc(
         &mut self,
         origin: &Point,
         matrix: Matrix,
@@ -268,7 +268,7 @@ impl CurrentPath {
     }
 
     /// Adds a grid with those steps from the current point to a goal; each line is paid for.
-    pub(crate) fn grid(
+    pub fn grid(
         &mut self,
         alloc: Global,
         origin: &Point,
@@ -295,7 +295,7 @@ impl CurrentPath {
     }
 
     /// The pieces; None where there are none.
-    pub(crate) fn into_segs(self) -> Option<Segs>
+    pub fn into_segs(self) -> Option<Segs>
         ensures pieces { MatchOption result (self.segs ≡ []) (λ segs. segs ≡ self.segs) }
         ensures begins { IfSome result BeginsWithMove }
     {

@@ -16,13 +16,17 @@ use Rattle.tk_affine.specs.declared.Matrix.{Matrix}
 use Rattle.tk_affine.specs.Faults.{answer_at}
 use Rattle.tk_geom.specs.GridLines.{GridLine, line_pieces, corners, grid_lines}
 use Rattle.tk_geom.specs.Grids.{Grid, grid_of, grid_behind, grid_appended, line_drawn, lines_drawn, grid_pieces}
-use Rattle.tk_keys.proofs.Standing.{any_value}
-use Rattle.tk_path.specs.declared.current_path.Goal.{Goal}
-use Rattle.tk_path.specs.declared.current_path.Mesh.{Mesh}
-use Rattle.tk_path.specs.CurrentPaths.{CurrentPath, current_point, moved_to, with_pieces}
-use Rattle.tk_path.specs.Meshes.{Meshed, meshed, mesh_drawn}
-use Rattle.tk_path.specs.Views.{BeginsOrNone, IsTraced}
-use Rattle.tk_path.proofs.Tracing.{joined_pieces_begin, line_begins}
+use Rattle.tk_outline.specs.declared.current_path.Goal.{Goal}
+use Rattle.tk_outline.specs.declared.current_path.Mesh.{Mesh}
+use Rattle.tk_outline.specs.CurrentPaths.{CurrentPath, current_point, moved_to, with_pieces}
+use Rattle.tk_outline.specs.Meshes.{Meshed, meshed, mesh_drawn}
+use Rattle.tk_outline.specs.Tracing.{BeginsOrNone, IsTraced}
+use Rattle.tk_outline.proofs.Tracing.{joined_pieces_begin, line_begins}
+
+-- nothing is known of a value
+any_value : {A : Type 0} (m : Answer A) → IfOk m (λ _. Unit {0})
+any_value (Ok a) = tt
+any_value (Err e) = tt
 
 -- ---- the pieces begin with a Move
 

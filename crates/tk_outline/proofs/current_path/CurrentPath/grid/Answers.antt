@@ -5,11 +5,11 @@ use Rattle.tk_item.specs.declared.Seg.{Seg}
 use Rattle.tk_token.specs.Answers.{Answer}
 use Rattle.tk_token.specs.Refusals.{Fails}
 use Rattle.tk_geom.specs.Grids.{grid_of, grid_appended, grid_pieces}
-use Rattle.tk_path.specs.CurrentPaths.{CurrentPath}
-use Rattle.tk_path.specs.Meshes.{Meshed, meshed}
-use Rattle.tk_path.specs.Views.{IsTraced}
-use Rattle.tk_path.proofs.Meshing.{grid_added, mesh_is, mesh_fails}
-use Rattle.tk_path.proofs.current_path.CurrentPath.grid.Goals as goal
+use Rattle.tk_outline.specs.CurrentPaths.{CurrentPath}
+use Rattle.tk_outline.specs.Meshes.{Meshed, meshed}
+use Rattle.tk_outline.specs.Tracing.{IsTraced}
+use Rattle.tk_outline.proofs.Meshing.{grid_added, mesh_is, mesh_fails}
+use Rattle.tk_outline.proofs.current_path.CurrentPath.grid.Goals as goal
 
 pub returns-in_err-push_grid-clause-gives : goal.returns-in_err-push_grid-clause-gives
 returns-in_err-push_grid-clause-gives c =

@@ -1,0 +1,2 @@
+pub mod Meshing
+pub mod Tracing

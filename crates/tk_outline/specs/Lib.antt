@@ -1,0 +1,4 @@
+pub mod CurrentPaths
+pub mod Measures
+pub mod Meshes
+pub mod Tracing
