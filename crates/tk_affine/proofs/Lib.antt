@@ -4,3 +4,4 @@ pub mod Regular
 pub mod Neutral
 pub mod Folds
 pub mod Ranges
+pub mod Corners

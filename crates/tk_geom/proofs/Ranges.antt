@@ -12,11 +12,11 @@ use Rattle.tk_item.specs.declared.Point.{Point}
 use Rattle.tk_item.specs.declared.Seg.{Seg}
 use Rattle.tk_item.specs.declared.Seg.TheVariants.{Move, Line, Curve, Close}
 use Rattle.tk_affine.specs.declared.AffFault.{AffFault}
-use Rattle.tk_affine.specs.declared.AffFault.TheVariants.{Singular}
 use Rattle.tk_affine.specs.declared.Matrix.{Matrix}
 use Rattle.tk_affine.specs.Faults.{answer_at}
 use Rattle.tk_affine.specs.Images.{IsPoint, point_at, vector_image, image}
-use Rattle.tk_affine.specs.Inverses.{determinant, by_inverse, along_first, share, inverse_image, corner_of}
+use Rattle.tk_affine.specs.Inverses.{corner_of}
+use Rattle.tk_affine.proofs.Corners.{corner_in}
 use Rattle.tk_affine.proofs.Ranges.{then_in, point_in, vector_in, image_in}
 use Rattle.tk_geom.specs.Arcs.{piece_count, spoke, control_vector, arc_piece, piece_at, arc_pieces, control_ratio, angle_at}
 use Rattle.tk_geom.specs.Circles.{control_length, vector_end, curve_round, circle_pieces}
@@ -47,19 +47,6 @@ NoneOrMove (Move p ∷ segs) = Unit {0}
 NoneOrMove _ = ⊥
 
 -- ---- corners and rectangles
-
-inverse_in : (m : Matrix) (found : Result Point AffFault) → IfOk found IsPoint → IfOk (by_inverse m found) IsPoint
-inverse_in m found h = by (unsigned_abs (determinant m) == 0)
-  where
-    by : (b : Bool) → IfOk (let r : Result Point AffFault = if b then Err Singular else found in r) IsPoint
-    by true = tt
-    by false = h
-
-pub corner_in : (m : Matrix) (p q : Point) → IfOk (corner_of m p q) IsPoint
-unfolding corner_of
-corner_in m p q =
-    let n = along_first m (q.x -ℤ p.x) (q.y -ℤ p.y) in
-    inverse_in m (point_at (p.x +ℤ share m m.a n) (p.y +ℤ share m m.b n)) (point_in (p.x +ℤ share m m.a n) (p.y +ℤ share m m.b n))
 
 -- pieces that are in range, the first of which is a move
 pub record OutlineIn (segs : List Seg) : Type 0 where
@@ -165,7 +152,7 @@ anything : {A : Type 0} (m : Answer A) → IfOk m (λ _. Unit {0})
 anything (Ok x) = tt
 anything (Err e) = tt
 
-behind_move : (segs more : List Seg) → NoneOrMove segs → NoneOrMove more → NoneOrMove (segs ++ more)
+pub behind_move : (segs more : List Seg) → NoneOrMove segs → NoneOrMove more → NoneOrMove (segs ++ more)
 behind_move [] more h k = k
 behind_move (Move p ∷ segs) more h k = tt
 behind_move (Line p ∷ segs) more h k = elim h [ ]

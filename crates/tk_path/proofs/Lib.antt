@@ -10,6 +10,7 @@ pub mod Meshing
 pub mod OperationMoves
 pub mod PathMoves
 pub mod Places
+pub mod Ranges
 pub mod TargetMoves
 pub mod Tracing
 pub mod Unbounded
