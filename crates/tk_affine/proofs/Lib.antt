@@ -3,3 +3,5 @@ pub mod Lengths
 pub mod Regular
 pub mod Neutral
 pub mod Folds
+pub mod Ranges
+pub mod Corners

@@ -15,6 +15,7 @@ pub mod Places
 pub mod Powers
 pub mod Prefixes
 pub mod ProperPieces
+pub mod Ranges
 pub mod Readings
 pub mod Roots
 pub mod Runs

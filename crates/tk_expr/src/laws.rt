@@ -1,6 +1,7 @@
 //! Laws of the definitions.
 
-ghost use Rattle.std.specs.Prelude.{◌≡◌, ℕ, ℤ, List, IfErr};
+ghost use Rattle.std.specs.Prelude.{◌≡◌, ℕ, ℤ, List, IfErr, IfOk};
+ghost use Rattle.tk_num.specs.Number.{IsScaled};
 ghost use Rattle.tk_token.specs.declared.Tok.{Tok};
 ghost use Rattle.tk_token.specs.Answers.{Answer};
 ghost use Rattle.tk_expr.specs.declared.FontUnits.{FontUnits as TheFontUnits};
@@ -20,6 +21,12 @@ pub fn evaluated_is_the_answer()
 pub fn a_text_has_one_answer()
     ensures { (font : TheFontUnits) (at : ℕ) (toks : List Tok) (a b : Answer AValue) → Evaluates font at toks a
         → Evaluates font at toks b → a ≡ b }
+{}
+
+/// The value of an expression is in range, whatever the units of the font are.
+pub fn a_value_is_in_range()
+    ensures { (font : TheFontUnits) (at : ℕ) (toks : List Tok) (answer : Answer AValue) → Evaluates font at toks answer
+        → IfOk answer (λ value. IsScaled value.number) }
 {}
 
 /// The fault of an expression stands at one of its tokens, or at the given place.

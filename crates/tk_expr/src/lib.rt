@@ -18,7 +18,8 @@ mod values;
 pub use evaluation::eval;
 pub use laws::{
     a_fault_of_a_pair_stands_in_its_text, a_fault_of_a_vector_stands_at_its_place,
-    a_fault_stands_in_its_text, a_text_has_one_answer, evaluated_is_the_answer,
+    a_fault_stands_in_its_text, a_text_has_one_answer, a_value_is_in_range,
+    evaluated_is_the_answer,
 };
 pub use pairs::{length_along, pair, vector};
 use tk_num::Scaled;

@@ -11,3 +11,4 @@ pub mod LinesDrawn
 pub mod GridPieces
 pub mod Forms
 pub mod Waypoints
+pub mod Ranges

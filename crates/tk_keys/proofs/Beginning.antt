@@ -15,6 +15,7 @@ use Rattle.tk_store.specs.declared.Run.TheVariants as runs
 use Rattle.tk_store.specs.Levels.{Keys}
 use Rattle.tk_keys.specs.Environment.{tikz_path, running, style_for, initial_entries, with_entries, first_env}
 use Rattle.tk_keys.specs.Given.{Given, also_word}
+use Rattle.tk_look.proofs.Ranges.{initial_in}
 use Rattle.tk_keys.proofs.Entries.{EntryAt, EntriesAt, EnvAt, entries_with, text_stands, also_at}
 
 module _ (P : ℕ → Type 0) where
@@ -47,4 +48,5 @@ module _ (P : ℕ → Type 0) where
     entries = set_at finmap.empty (initial_entries (also_word given)) none_at (joined (map (λ row. (tikz_path row.0, running (runs.Native row.1)))
         natives) (map (λ row. (tikz_path row.0, running (style_for (also_word given) row.1))) styles) (natives_at natives)
         (styles_at (also_word given) p styles));
+    graphics = (λ out beyond. initial_in given.font);
   }

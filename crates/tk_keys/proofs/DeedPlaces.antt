@@ -44,7 +44,12 @@ use Rattle.tk_keys.proofs.Spending.{full_spends}
 use Rattle.tk_native.specs.declared.Native.{Native}
 use Rattle.tk_look.specs.declared.GraphicsState.{GraphicsState}
 use Rattle.tk_look.specs.Graphics.{graphics_by}
+use Rattle.tk_look.specs.Ranges.{IsInRange}
 use Rattle.tk_look.proofs.Places.{graphics_fine}
+use Rattle.tk_look.proofs.Ranges.{graphics_in}
+use Rattle.tk_expr.specs.declared.Value.{Value}
+use Rattle.tk_num.specs.Number.{IsScaled}
+use Rattle.tk_keys.proofs.Narrow.{IfNarrow, narrow_value, stands_with}
 use Rattle.tk_keys.proofs.Standing.{then_at, if_at, both_at, only_fault}
 
 module _ (P : ℕ → Type 0) where
@@ -119,9 +124,10 @@ module _ (P : ℕ → Type 0) where
   abbrev pub EffectAt : Given → Situation → Effect → Type 0
   EffectAt given s e = DeedAt given.budget s e.deed
 
-  -- the faults of expressions stand at such places
-  abbrev pub EvaluatesAt : Given → Type 0
-  EvaluatesAt given = (at : ℕ) (list : List Tok) → P at → StandAt P list → IfErr (given.evaluate given.font at list) (λ (f : Fault). P f.at)
+  -- the faults of expressions stand at such places, and their values are in range
+  pub record EvaluatesAt (given : Given) : Type 0 where
+    pub faults : (at : ℕ) (list : List Tok) → P at → StandAt P list → IfErr (given.evaluate given.font at list) (λ (f : Fault). P f.at)
+    pub values : IfNarrow P ((at : ℕ) (list : List Tok) → IfOk (given.evaluate given.font at list) (λ (v : Value). IsScaled v.number))
 
   module _ (given : Given) (evaluates : EvaluatesAt given) where
     -- ---- names
@@ -194,22 +200,25 @@ module _ (P : ℕ → Type 0) where
         record { value = k.0; spent = k.1 })
 
     graphics_later : (s : Situation) (units : ℕ) (graphics : GraphicsState) → s.units ≤ units → EnvAt P s.env
-        → Later s (with_graphics (with_paid s units) graphics)
-    graphics_later s units graphics le h = record {
+        → IfNarrow P (IsInRange graphics) → Later s (with_graphics (with_paid s units) graphics)
+    graphics_later s units graphics le h range = record {
       units = le;
       levels = (λ _. s.env.levels);
       lists = (λ _. s.env.lists);
-      env = record { bodies = h.bodies; entries = h.entries };
+      env = record { bodies = h.bodies; entries = h.entries; graphics = range };
     }
 
     native_at : (at : ℕ) (name : List ℕ) (key : Native) (value : Option (List Tok)) (s : Situation) → P at → IfSome value (StandAt P) → EnvAt P s.env
         → Stands P (DeedAt given.budget s) (set_native given at name key value s)
     native_at at name key value s p h env =
         then_at P (ExpandedAt s.units) (DeedAt given.budget s) (expanded_value given at value s) _ (expanded_at at value s p h env) (λ e k.
-        then_at P (λ _. Unit {0}) (DeedAt given.budget s) (graphics_by at given.evaluate given.font key name e.value s.env.graphics) _
-        (only_fault P (graphics_by at given.evaluate given.font key name e.value s.env.graphics) (graphics_fine P at p given.evaluate given.font
-        (λ ts m. evaluates at ts p m) key name e.value s.env.graphics k.value)) (λ graphics _.
-        done_at given.budget s (with_graphics (with_paid s e.units) graphics) (graphics_later s e.units graphics k.spent env)))
+        let found = graphics_by at given.evaluate given.font key name e.value s.env.graphics in
+        then_at P (λ (graphics : GraphicsState). IfNarrow P (IsInRange graphics)) (DeedAt given.budget s) found _
+        (stands_with P (λ (graphics : GraphicsState). IfNarrow P (IsInRange graphics)) found (graphics_fine P at p given.evaluate given.font
+        (λ ts m. evaluates.faults at ts p m) key name e.value s.env.graphics k.value) (narrow_value P IsInRange found (λ out beyond.
+        graphics_in at given.evaluate given.font (evaluates.values out beyond at) key name e.value s.env.graphics (env.graphics out beyond))))
+        (λ graphics range.
+        done_at given.budget s (with_graphics (with_paid s e.units) graphics) (graphics_later s e.units graphics k.spent env range)))
 
     pub run_stands : (at : ℕ) (name : List ℕ) (run : Run) (value : Option (List Tok)) (s : Situation) → P at → RunAt P run → IfSome value (StandAt P)
         → EnvAt P s.env → Stands P (DeedAt given.budget s) (keys.plain_run given at name run value s)

@@ -27,7 +27,9 @@ use Rattle.tk_keytext.specs.declared.Handler.TheVariants.{ValueForbidden, Initia
 use Rattle.tk_keytext.specs.Entries.{no_entry, with_run, coded, also_keys, styled, restyled, run_by, entry_by, edited}
 use Rattle.tk_keys.specs.Environment.{Env, with_macro, with_entry}
 use Rattle.tk_keys.proofs.Defining.{body_of_at}
+use Rattle.tk_keys.proofs.Narrow.{IfNarrow}
 use Rattle.tk_keys.proofs.Standing.{then_at}
+use Rattle.tk_look.specs.Ranges.{IsInRange}
 
 module _ (P : ℕ → Type 0) where
   -- ---- entries
@@ -49,10 +51,11 @@ module _ (P : ℕ → Type 0) where
   abbrev pub EntriesAt : Keys → Type 0
   EntriesAt keys = (path : List ℕ) (e : Entry) → map.get keys path ≡ Some e → EntryAt e
 
-  -- the bodies of an environment stand at such places
+  -- the bodies of an environment stand at such places, and what is drawn in it is in range
   pub record EnvAt (env : Env) : Type 0 where
     pub bodies : BodiesAt P env.macros
     pub entries : EntriesAt env.keys
+    pub graphics : IfNarrow P (IsInRange env.graphics)
 
   pub bodies_with : (macros : Macros) (word : ℕ) (value : Macro) → BodiesAt P macros → StandAt P value.body
       → BodiesAt P (map.insert macros word value)
@@ -70,10 +73,10 @@ module _ (P : ℕ → Type 0) where
       by false same = h q e same
 
   pub with_macro_at : (env : Env) (word : ℕ) (value : Macro) → EnvAt env → StandAt P value.body → EnvAt (with_macro env word value)
-  with_macro_at env word value h k = record { bodies = bodies_with env.macros word value h.bodies k; entries = h.entries }
+  with_macro_at env word value h k = record { bodies = bodies_with env.macros word value h.bodies k; entries = h.entries; graphics = h.graphics }
 
   pub with_entry_at : (env : Env) (path : List ℕ) (entry : Entry) → EnvAt env → EntryAt entry → EnvAt (with_entry env path entry)
-  with_entry_at env path entry h k = record { bodies = h.bodies; entries = entries_with env.keys path entry h.entries k }
+  with_entry_at env path entry h k = record { bodies = h.bodies; entries = entries_with env.keys path entry h.entries k; graphics = h.graphics }
 
   pub known_entry : (keys : Keys) (path : List ℕ) → EntriesAt keys → IfSome (map.get keys path) EntryAt
   known_entry keys path h = by (map.get keys path) (h path)

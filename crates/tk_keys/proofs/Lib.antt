@@ -13,5 +13,6 @@ pub mod Standing
 pub mod Tables
 pub mod Words
 pub mod Beginning
+pub mod Narrow
 pub mod Natives
 pub mod Painted

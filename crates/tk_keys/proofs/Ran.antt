@@ -71,7 +71,7 @@ pub any_entry : (e : Entry) → EntryAt Any e
 any_entry e = record { run = any_some (RunAt Any) any_run e.run; value = any_some (StandAt Any) any_list e.value; need = any_need e.need }
 
 pub any_env : (env : Env) → EnvAt Any env
-any_env env = record { bodies = (λ w m is. any_list m.body); entries = (λ path e is. any_entry e) }
+any_env env = record { bodies = (λ w m is. any_list m.body); entries = (λ path e is. any_entry e); graphics = (λ out beyond. elim (beyond tt) [ ]) }
 
 pub any_read : (list : Unread) → ListAt Any list
 any_read list = record { rest = any_list list.rest; end = tt }
@@ -84,7 +84,7 @@ any_fault (Ok a) = tt
 any_fault (Err f) = tt
 
 pub any_evaluates : (given : Given) → EvaluatesAt Any given
-any_evaluates given at list p h = any_fault (given.evaluate given.font at list)
+any_evaluates given = record { faults = (λ at list p h. any_fault (given.evaluate given.font at list)); values = (λ out beyond. elim (beyond tt) [ ]) }
 
 pub any_runnable : (given : Given) (evaluates : EvaluatesAt Any given) (job : Runnable) → RunnableAt Any given evaluates job
 any_runnable given evaluates (A_key_list s dir list at) = (any_env s.env, (any_list list, tt))

@@ -171,7 +171,7 @@ module _ (P : ℕ → Type 0) where
         (both_at P (StreamAt P) (λ (r : Stream). s.units ≤ r.units) (full given.budget s.env.macros from) (full_at P given.budget s.env.macros
         env.bodies from h) (full_spends given.budget s.env.macros from)) (λ r d.
         then_at P (λ _. Unit {0}) (NumberAt s.units) (given.evaluate given.font at r.list.rest) _
-        (only_fault P (given.evaluate given.font at r.list.rest) (evaluates at r.list.rest p d.0)) (λ found _.
+        (only_fault P (given.evaluate given.font at r.list.rest) (evaluates.faults at r.list.rest p d.0)) (λ found _.
         record { spent = d.1 }))
 
     set_number_at : (written : ℤ → List ℕ) (at : ℕ) (s : Situation) (list : Unread) → P at → EnvAt P s.env → StandAt P list.rest
@@ -237,7 +237,7 @@ module _ (P : ℕ → Type 0) where
           dir_at st.dir st (set_number given whole_text at st.now st.list) (set_number_at whole_text at st.now st.list p env h.rest)
 
       leveled : (at : ℕ) (env : Env) → P at → EnvAt P env → Stands P (λ inside. EnvAt P inside) (level at env)
-      leveled at env p h = if_at P (λ inside. EnvAt P inside) (nat_lt env.levels 128) _ _ (record { bodies = h.bodies; entries = h.entries }) p
+      leveled at env p h = if_at P (λ inside. EnvAt P inside) (nat_lt env.levels 128) _ _ (record { bodies = h.bodies; entries = h.entries; graphics = h.graphics }) p
 
       group_at : (at : ℕ) (st : Standing) → P at → EnvAt P st.now.env → StandAt P st.list.rest → Stands P (StandingAt st) (group given runs at st)
       group_at at st p env h =
@@ -330,7 +330,7 @@ module _ (P : ℕ → Type 0) where
           by true =
               let inside : Situation = record s { env = record s.env { lists = suc s.env.lists } } in
               then_at P (λ (e : Ending). Later P inside e.now) (λ (e : Ending). Later P s e.now) (parts given runs (parts_of list) dir inside) _
-              (parts_stand (parts_of list) dir inside (parts_at P list h) (record { bodies = env.bodies; entries = env.entries })) (λ after m.
+              (parts_stand (parts_of list) dir inside (parts_at P list h) (record { bodies = env.bodies; entries = env.entries; graphics = env.graphics })) (λ after m.
               record {
                 units = m.units;
                 levels = m.levels;
@@ -338,6 +338,7 @@ module _ (P : ℕ → Type 0) where
                 env = record {
                   bodies = m.env.bodies;
                   entries = m.env.entries;
+                  graphics = m.env.graphics;
                 };
               })
 

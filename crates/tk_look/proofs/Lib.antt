@@ -4,3 +4,4 @@ pub mod Parentheses
 pub mod Places
 pub mod Splitting
 pub mod Tables
+pub mod Ranges

@@ -4,6 +4,7 @@ pub mod Dashes
 pub mod Looks
 pub mod Strokes
 pub mod Values
+pub mod Ranges
 pub mod Words
 pub mod Pieces
 pub mod Views

@@ -17,7 +17,7 @@ mod words;
 
 pub use colours::colour;
 pub use keys::apply;
-pub use laws::a_matrix_is_that_of_its_steps;
+pub use laws::{a_look_stays_in_its_ranges, a_matrix_is_that_of_its_steps};
 pub use lengths::{LineWidth, MiterLimit, Position};
 pub use names::NodeName;
 pub use strokes::{look_fill, look_reach, look_stroke};

@@ -12,11 +12,14 @@ use Rattle.tk_token.proofs.Outside.{before_char_keeps, before_char_shorter}
 use Rattle.tk_expand.specs.Unread.{unread}
 use Rattle.tk_expand.specs.Expand.{Stream, stream, full}
 use Rattle.tk_expand.specs.Reading.{is_there}
-use Rattle.tk_expand.proofs.Going.{Going, then_going, if_going, fault_going, gives}
+use Rattle.tk_expand.proofs.Going.{Going, then_going, if_going, gives}
 use Rattle.tk_expand.proofs.Places.{StandAt, StreamAt, CutAt, full_at}
 use Rattle.tk_coord.specs.declared.TextTarget.{TextTarget}
 use Rattle.tk_coord.specs.Coordinates.{target_of}
 use Rattle.tk_coord.proofs.Places.{target_fine}
+use Rattle.tk_coord.proofs.Ranges.{target_in}
+use Rattle.tk_affine.specs.Images.{IsPoint}
+use Rattle.tk_keys.proofs.Narrow.{stands_with}
 use Rattle.tk_keys.specs.Given.{Given}
 use Rattle.tk_keys.proofs.DeedPlaces.{EvaluatesAt}
 use Rattle.tk_keys.proofs.Spending.{full_spends}
@@ -27,7 +30,7 @@ use Rattle.tk_path.specs.Configurations.{Configuration, Reached, Lookahead, look
 use Rattle.tk_path.specs.Coordinates.{Written, start_of, behind_parenthesis, parenthesized, past_spaces_from, behind_plus, coordinate_from}
 use Rattle.tk_path.specs.Coordinates.{point_of_target, coordinate_point}
 use Rattle.tk_path.specs.Keys.{with_list}
-use Rattle.tk_path.proofs.Places.{Here, HereWith, Taken, AnyValue, passed, place_taken, token_here, solid_here, wanted_here}
+use Rattle.tk_path.proofs.Places.{Here, HereWith, Taken, passed, place_taken, token_here, solid_here, wanted_here}
 
 module _ (P : ℕ → Type 0) where
   -- the text of a coordinate stands there
@@ -58,7 +61,7 @@ module _ (P : ℕ → Type 0) (given : Given) (from : Configuration) where
     end = h.end;
     units = h.units;
     work = (let a = h.work in let b = w.short in omega arith);
-    good = record { env = h.good.env; rest = w.places.1; end = h.good.end };
+    good = record { env = h.good.env; drawn = h.good.drawn; rest = w.places.1; end = h.good.end };
   }
 
   behind_here : (gone : ℕ) (sign : Sign) (at : ℕ) (c : Configuration) → P at → Here P given from gone c
@@ -98,14 +101,14 @@ module _ (P : ℕ → Type 0) (given : Given) (from : Configuration) where
 
   -- ---- points
 
-  target_point_at : {found : Answer TextTarget} → Going P (λ (target : TextTarget). Unit {0}) found
-      → Going P (λ (p : Point). Unit {0}) (point_of_target found)
+  target_point_at : {found : Answer TextTarget} → Going P (λ (target : TextTarget). IsPoint target.point) found
+      → Going P IsPoint (point_of_target found)
   unfolding point_of_target
-  target_point_at h = then_going P h (λ target _. gives P _ tt)
+  target_point_at h = then_going P h (λ target k. gives P _ k)
 
   module _ (evaluates : EvaluatesAt P given) where
     pub point_here : (gone : ℕ) (start : Point) (w : Written) (c : Configuration) → WrittenAt P w → Here P given from gone c
-        → Going P (HereWith P given from AnyValue gone) (coordinate_point given start w c)
+        → Going P (HereWith P given from IsPoint gone) (coordinate_point given start w c)
     unfolding coordinate_point
     point_here gone start w c k h =
         let inside = stream c.units (unread w.text w.at) in
@@ -115,14 +118,17 @@ module _ (P : ℕ → Type 0) (given : Given) (from : Configuration) where
               (full_at P given.budget c.env.macros h.good.env.bodies inside k.text) (full_spends given.budget c.env.macros inside);
         }) (λ text a.
         let g = c.env.graphics in
-        then_going P (target_point_at (fault_going P (target_of given.evaluate given.font g.look g.matrix w.at (start_of w.sign start) text.list.rest)
-        (target_fine P w.at k.place given.evaluate given.font g.look g.matrix (λ ts l. evaluates w.at ts k.place l) (start_of w.sign start)
-        text.list.rest a.0))) (λ p _. gives P _ (
-          tt,
+        let found = target_of given.evaluate given.font g.look g.matrix w.at (start_of w.sign start) text.list.rest in
+        then_going P (target_point_at {found = found} (record {
+          stands = stands_with P (λ (target : TextTarget). IsPoint target.point) found (target_fine P w.at k.place given.evaluate given.font g.look
+              g.matrix (λ ts l. evaluates.faults w.at ts k.place l) (start_of w.sign start) text.list.rest a.0)
+              (target_in given.evaluate given.font g.look g.matrix w.at (start_of w.sign start) text.list.rest);
+        })) (λ p l. gives P _ (
+          l,
           record {
             end = h.end;
             units = (let b = a.1 in let u = h.units in omega arith);
             work = (let b = a.1 in let u = h.work in omega arith);
-            good = record { env = h.good.env; rest = h.good.rest; end = h.good.end };
+            good = record { env = h.good.env; drawn = h.good.drawn; rest = h.good.rest; end = h.good.end };
           },
         )))

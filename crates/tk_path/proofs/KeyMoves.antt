@@ -35,7 +35,7 @@ module _ (P : ℕ → Type 0) (given : Given) (begin : P 0) (values : EvaluatesA
         end = h.end;
         units = (let a = l.units in let b = h.units in omega arith);
         work = (let a = l.units in let b = h.work in omega arith);
-        good = record { env = l.env; rest = h.good.rest; end = h.good.end };
+        good = record { env = l.env; drawn = h.good.drawn; rest = h.good.rest; end = h.good.end };
       }))
 
   pub style_here : (gone at : ℕ) (name : List ℕ) (c : Configuration) → P at → Here P given from gone c
@@ -61,7 +61,7 @@ module _ (P : ℕ → Type 0) (given : Given) (begin : P 0) (values : EvaluatesA
           end = h.end;
           units = h.units;
           work = (let a = h.work in omega arith);
-          good = record { env = h.good.env; rest = k.1; end = h.good.end };
+          good = record { env = h.good.env; drawn = h.good.drawn; rest = k.1; end = h.good.end };
         },
       )
 
@@ -77,7 +77,7 @@ module _ (P : ℕ → Type 0) (given : Given) (begin : P 0) (values : EvaluatesA
     end = k.here.end;
     units = k.here.units;
     work = (let a = k.here.work in omega arith);
-    good = record { env = k.here.good.env; rest = (k.token, k.here.good.rest); end = k.here.good.end };
+    good = record { env = k.here.good.env; drawn = k.here.good.drawn; rest = (k.token, k.here.good.rest); end = k.here.good.end };
   }
 
   from_here : (gone : ℕ) (first : Lookahead) → Taken P given from gone first → Going P (Here P given from gone) (options_from given first)

@@ -9,6 +9,7 @@ pub mod MeasureMoves
 pub mod OperationMoves
 pub mod PathMoves
 pub mod Places
+pub mod Ranges
 pub mod TargetMoves
 pub mod Unbounded
 pub mod WordMoves

@@ -47,7 +47,7 @@ module _ (P : ℕ → Type 0) (given : Given) where
 
   module _ (evaluates : EvaluatesAt P given) (at : ℕ) (here : P at) where
     value_at : (text : List Tok) → StandAt P text → Going P AnyValue (given.evaluate given.font at text)
-    value_at text h = fault_going P (given.evaluate given.font at text) (evaluates at text here h)
+    value_at text h = fault_going P (given.evaluate given.font at text) (evaluates.faults at text here h)
 
     by_at : (text : List Tok) (found : Option Cut) → StandAt P text → IfSome found (CutAt P)
         → Going P AnyValue (radii_by given.evaluate given.font at text found)
@@ -78,7 +78,7 @@ module _ (P : ℕ → Type 0) (given : Given) where
 
   pub level_at : (at : ℕ) (env : Env) → P at → Going P (λ (inside : Env). EnvAt P env → EnvAt P inside) (level at env)
   level_at at env p =
-      if_going P (nat_lt env.levels 128) (gives P _ (λ h. record { bodies = h.bodies; entries = h.entries })) (refused P Levels at p)
+      if_going P (nat_lt env.levels 128) (gives P _ (λ h. record { bodies = h.bodies; entries = h.entries; graphics = h.graphics })) (refused P Levels at p)
 
   module _ (begin : P 0) (evaluates : EvaluatesAt P given) (from : Configuration) where
     pub inner_here : (gone at : ℕ) (c : Configuration) → P at → Here P given from gone c
@@ -91,7 +91,7 @@ module _ (P : ℕ → Type 0) (given : Given) where
           end = k.1.end;
           units = k.1.units;
           work = k.1.work;
-          good = record { env = l h.good.env; rest = k.1.good.rest; end = k.1.good.end };
+          good = record { env = l h.good.env; drawn = k.1.good.drawn; rest = k.1.good.rest; end = k.1.good.end };
         } in
         then_going P (keys_here P given begin evaluates from gone at list.value (with_env inside list.behind) p k.0 there) (λ e m.
         gives P _ (
@@ -100,7 +100,7 @@ module _ (P : ℕ → Type 0) (given : Given) where
             end = m.end;
             units = m.units;
             work = m.work;
-            good = record { env = h.good.env; rest = m.good.rest; end = m.good.end };
+            good = record { env = h.good.env; drawn = m.good.drawn; rest = m.good.rest; end = m.good.end };
           },
         ))))
 

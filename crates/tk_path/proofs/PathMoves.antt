@@ -24,7 +24,8 @@ use Rattle.tk_path.specs.Paths.{Stretch, stretch, ends, PathFlow, goes_on, movem
 use Rattle.tk_path.specs.Paths.{operations_step, stretch_work, operations, path}
 use Rattle.tk_path.specs.Targets.{origin_of}
 use Rattle.tk_path.specs.Words.{begins_coordinate}
-use Rattle.tk_path.proofs.Places.{Here, Taken, less, passed, place_taken, solid_here}
+use Rattle.tk_path.proofs.Places.{Here, Taken, less, passed, place_taken, solid_here, origin_at, path_at}
+use Rattle.tk_path.proofs.Ranges.{moved_in, drawn_in}
 use Rattle.tk_path.proofs.CoordinateMoves.{coordinate_from_here}
 use Rattle.tk_path.proofs.KeyMoves.{options_here}
 use Rattle.tk_path.proofs.MeasureMoves.{level_at}
@@ -38,7 +39,10 @@ module _ (P : ℕ → Type 0) (given : Given) (begin : P 0) (evaluates : Evaluat
   movement_here gone first k =
       then_going P (coordinate_from_here P given from gone first k) (λ written a.
       then_going P (goal_here P given from evaluates (gone + 1) written.value written.behind a.0 a.1) (λ to b.
-      gives P _ (same_here P given from (gone + 1) (moved_to (origin_of to.behind.env) to.value to.behind.picture.path) to.behind b.1)))
+      gives P _ (same_here P given from (gone + 1) (moved_to (origin_of to.behind.env) to.value to.behind.picture.path) to.behind b.1
+      (λ out beyond.
+      moved_in (origin_of to.behind.env) (origin_at P to.behind b.1.good out beyond) to.value to.behind.picture.path b.0
+      (path_at P to.behind b.1.good out beyond)))))
 
   operation_from_here : (gone : ℕ) (first : Lookahead) → Taken P given from gone first
       → Going P (Here P given from (gone + 1)) (operation_from given first)
@@ -73,13 +77,13 @@ module _ (P : ℕ → Type 0) (given : Given) (begin : P 0) (evaluates : Evaluat
           end = h.end;
           units = h.units;
           work = h.work;
-          good = record { env = l h.good.env; rest = h.good.rest; end = h.good.end };
+          good = record { env = l h.good.env; drawn = h.good.drawn; rest = h.good.rest; end = h.good.end };
         })) (λ e m.
         gives P _ (record {
           end = m.end;
           units = m.units;
           work = m.work;
-          good = record { env = h.good.env; rest = m.good.rest; end = m.good.end };
+          good = record { env = h.good.env; drawn = m.good.drawn; rest = m.good.rest; end = m.good.end };
         })))
 
     part_by : (gone : ℕ) (opener : PathOpener) (token : Option Tok) (d : Configuration) → Taken P given from gone (lookahead token d)
@@ -115,7 +119,17 @@ module _ (P : ℕ → Type 0) (given : Given) (begin : P 0) (evaluates : Evaluat
   drawn_here : (gone : ℕ) (c : Configuration) → Here P given from gone c
       → Here P given from gone (record c { picture = drawn c.env.graphics.look c.picture })
   drawn_here gone c h =
-      record { end = h.end; units = h.units; work = h.work; good = record { env = h.good.env; rest = h.good.rest; end = h.good.end } }
+      record {
+        end = h.end;
+        units = h.units;
+        work = h.work;
+        good = record {
+          env = h.good.env;
+          drawn = (λ out beyond. drawn_in c.env.graphics.look (h.good.env.graphics out beyond).1 c.picture (h.good.drawn out beyond));
+          rest = h.good.rest;
+          end = h.good.end;
+        };
+      }
 
   pub path_here : (gone : ℕ) (c : Configuration) → Here P given from gone c → Going P (Here P given from gone) (path given c)
   unfolding path

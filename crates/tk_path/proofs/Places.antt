@@ -15,20 +15,32 @@ use Rattle.tk_expand.proofs.NextPlaces.{TokenAt, NextAt, next_at, next_solid_at,
 use Rattle.tk_expand.proofs.Places.{StandAt}
 use Rattle.tk_keys.specs.Given.{Given}
 use Rattle.tk_keys.proofs.Entries.{EnvAt}
+use Rattle.tk_keys.proofs.Narrow.{IfNarrow}
 use Rattle.tk_keys.proofs.Standing.{both_at}
 use Rattle.tk_path.specs.Configurations.{Configuration, Reached, stream_at, with_stream, Lookahead, lookahead, place_ahead, must_be, token_ahead}
 use Rattle.tk_path.specs.Configurations.{ahead_of}
+use Rattle.tk_path.specs.Targets.{origin_of}
+use Rattle.tk_path.proofs.Ranges.{PathIn, PictureIn}
+use Rattle.tk_affine.specs.Images.{IsPoint}
 
 -- nothing is known of a value
 abbrev pub AnyValue : {A : Type 0} → A → Type 0
 AnyValue a = Unit {0}
 
 module _ (P : ℕ → Type 0) where
-  -- bodies, tokens and the end of the list stand at such places
+  -- bodies, tokens and the end of the list stand at such places, and what is drawn is in range
   pub record At (c : Configuration) : Type 0 where
     pub env : EnvAt P c.env
+    pub drawn : IfNarrow P (PictureIn c.picture)
     pub rest : StandAt P c.list.rest
     pub end : P c.list.end
+
+  -- so are the point to which the matrix takes the origin, and the path that is read
+  pub origin_at : (c : Configuration) → At c → IfNarrow P (IsPoint (origin_of c.env))
+  origin_at c h out beyond = let m = (h.env.graphics out beyond).0 in record { x = m.tx; y = m.ty }
+
+  pub path_at : (c : Configuration) → At c → IfNarrow P (PathIn c.picture.path)
+  path_at c h out beyond = (h.drawn out beyond).1
 
 module _ (P : ℕ → Type 0) (given : Given) (from : Configuration) where
   -- the run from there stands here, and so much of its work is gone
@@ -69,7 +81,7 @@ module _ (P : ℕ → Type 0) (given : Given) (from : Configuration) where
       end = k.1.end ∙ h.end;
       units = (let a = h.units in let b = k.1.units in omega arith);
       work = (let a = h.work in let b = k.1.work_falls in omega arith);
-      good = record { env = h.good.env; rest = k.0.1; end = subst P (sym k.1.end) h.good.end };
+      good = record { env = h.good.env; drawn = h.good.drawn; rest = k.0.1; end = subst P (sym k.1.end) h.good.end };
     };
   }
 

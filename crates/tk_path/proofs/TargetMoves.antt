@@ -14,18 +14,27 @@ use Rattle.tk_outline.specs.CurrentPaths.{CurrentPath}
 use Rattle.tk_path.specs.Targets.{with_current, reference, Target, A_coordinate, The_start, goal_of, coordinate_or_node, goal_ahead, target_by}
 use Rattle.tk_path.specs.Targets.{target_ahead}
 use Rattle.tk_path.specs.Words.{begins_coordinate}
-use Rattle.tk_path.proofs.Places.{Here, HereWith, Taken, AnyValue, less, place_taken, solid_here}
+use Rattle.tk_outline.specs.declared.current_path.Goal.{Goal}
+use Rattle.tk_affine.specs.Images.{IsPoint}
+use Rattle.tk_keys.proofs.Narrow.{IfNarrow}
+use Rattle.tk_path.proofs.Ranges.{PathIn}
+use Rattle.tk_path.proofs.Places.{Here, HereWith, Taken, less, place_taken, solid_here}
 use Rattle.tk_path.proofs.CoordinateMoves.{WrittenAt, coordinate_from_here, point_here}
 use Rattle.tk_path.proofs.WordMoves.{word_from_here}
 
+-- the point of a goal is in range
+abbrev pub GoalIn : Goal → Type 0
+GoalIn g = IsPoint g.point
+
 module _ (P : ℕ → Type 0) (given : Given) (from : Configuration) where
   -- another path is being read there
-  pub same_here : (gone : ℕ) (path : CurrentPath) (c : Configuration) → Here P given from gone c → Here P given from gone (with_current path c)
-  same_here gone path c h = record {
+  pub same_here : (gone : ℕ) (path : CurrentPath) (c : Configuration) → Here P given from gone c → IfNarrow P (PathIn path)
+      → Here P given from gone (with_current path c)
+  same_here gone path c h k = record {
     end = h.end;
     units = h.units;
     work = h.work;
-    good = record { env = h.good.env; rest = h.good.rest; end = h.good.end };
+    good = record { env = h.good.env; drawn = (λ out beyond. ((h.good.drawn out beyond).0, k out beyond)); rest = h.good.rest; end = h.good.end };
   }
 
   -- the text of a target stands there
@@ -35,10 +44,10 @@ module _ (P : ℕ → Type 0) (given : Given) (from : Configuration) where
 
   module _ (evaluates : EvaluatesAt P given) where
     pub goal_here : (gone : ℕ) (w : Written) (c : Configuration) → WrittenAt P w → Here P given from gone c
-        → Going P (HereWith P given from AnyValue gone) (goal_of given w c)
+        → Going P (HereWith P given from GoalIn gone) (goal_of given w c)
     unfolding goal_of
     goal_here gone w c k h =
-        then_going P (point_here P given from evaluates gone (reference c) w c k h) (λ p a. gives P _ (tt, a.1))
+        then_going P (point_here P given from evaluates gone (reference c) w c k h) (λ p a. gives P _ (a.0, a.1))
 
     coordinate_or_node_here : (gone : ℕ) (first : Lookahead) → Taken P given from gone first
         → Going P (HereWith P given from (WrittenAt P) (gone + 1)) (coordinate_or_node given first)
@@ -49,7 +58,7 @@ module _ (P : ℕ → Type 0) (given : Given) (from : Configuration) where
         refused P Unbuilt (place_ahead first) (place_taken P given from gone first k)))
 
     pub goal_ahead_here : (gone : ℕ) (c : Configuration) → Here P given from gone c
-        → Going P (HereWith P given from AnyValue gone) (goal_ahead given c)
+        → Going P (HereWith P given from GoalIn gone) (goal_ahead given c)
     unfolding goal_ahead
     goal_ahead_here gone c h =
         then_going P (solid_here P given from gone c h) (λ first k.

@@ -26,7 +26,7 @@ use Rattle.tk_path.proofs.PathMoves as moves
 
 module _ (given : Given) where
   pub any_at : (c : Configuration) → At Any c
-  any_at c = record { env = any_env c.env; rest = any_list c.list.rest; end = tt }
+  any_at c = record { env = any_env c.env; drawn = (λ out beyond. elim (beyond tt) [ ]); rest = any_list c.list.rest; end = tt }
 
   -- where a run begins nothing is gone
   pub any_here : (c : Configuration) → Here Any given c 0 c

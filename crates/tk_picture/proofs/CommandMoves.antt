@@ -32,14 +32,18 @@ use Rattle.tk_picture.specs.Beginnings.{plain, path_begun, whole_path}
 use Rattle.tk_picture.specs.Progress.{Progress, progress_at, with_progress}
 use Rattle.tk_picture.specs.Documents.{is_word, compiled, first_configuration, nothing_after, picture_behind, document}
 use Rattle.tk_path.specs.Flow.{Goes_on, Finishes, go_on}
+use Rattle.tk_keys.proofs.Narrow.{IfNarrow}
+use Rattle.tk_svg.specs.Fitting.{Fits}
 use Rattle.tk_path.proofs.Places.{At, Here, passed, solid_here}
+use Rattle.tk_path.proofs.Ranges.{first_in}
+use Rattle.tk_picture.proofs.Fitting.{compiled_fits}
 use Rattle.tk_picture.proofs.Returning.{Back, comes_back, goes_on_with}
 use Rattle.tk_path.proofs.KeyMoves.{keys_here, style_here, styled_here}
 use Rattle.tk_path.proofs.PathMoves.{path_here}
 
 module _ (P : ℕ → Type 0) (given : Given) (begin : P 0) (values : EvaluatesAt P given) where
   level_at : (at : ℕ) (env : Env) → P at → EnvAt P env → Going P (EnvAt P) (level at env)
-  level_at at env p h = if_going P (nat_lt env.levels 128) (gives P _ (record { bodies = h.bodies; entries = h.entries })) (refused P Levels at p)
+  level_at at env p h = if_going P (nat_lt env.levels 128) (gives P _ (record { bodies = h.bodies; entries = h.entries; graphics = h.graphics })) (refused P Levels at p)
 
   -- a name in braces, or its fault at a place
   pub named_at : (code : Code) (at : ℕ) (name : List ℕ) (list : Unread) → P at → StandAt P list.rest → P list.end
@@ -75,7 +79,7 @@ module _ (P : ℕ → Type 0) (given : Given) (begin : P 0) (values : EvaluatesA
       end = h.end;
       units = h.units;
       work = h.work;
-      good = record { env = m; rest = h.good.rest; end = h.good.end };
+      good = record { env = m; drawn = h.good.drawn; rest = h.good.rest; end = h.good.end };
     }
 
     -- over another list, which has no more tokens and the same end
@@ -85,7 +89,7 @@ module _ (P : ℕ → Type 0) (given : Given) (begin : P 0) (values : EvaluatesA
       end = w.same ∙ h.end;
       units = h.units;
       work = (let a = h.work in let s = w.short in omega arith);
-      good = record { env = m; rest = w.rest; end = w.last };
+      good = record { env = m; drawn = h.good.drawn; rest = w.rest; end = w.last };
     }
 
     -- what a path begins with
@@ -98,7 +102,8 @@ module _ (P : ℕ → Type 0) (given : Given) (begin : P 0) (values : EvaluatesA
           units = h.units;
           work = h.work;
           good = record {
-            env = record { bodies = h.good.env.bodies; entries = h.good.env.entries };
+            env = record { bodies = h.good.env.bodies; entries = h.good.env.entries; graphics = h.good.env.graphics };
+            drawn = h.good.drawn;
             rest = h.good.rest;
             end = h.good.end;
           };
@@ -117,7 +122,7 @@ module _ (P : ℕ → Type 0) (given : Given) (begin : P 0) (values : EvaluatesA
       end = k.list.end ∙ h.end;
       units = (let a = k.now.units in let b = h.units in omega arith);
       work = (let a = k.now.units in let s = k.list.short in let b = h.work in omega arith);
-      good = record { env = k.now.env; rest = k.list.rest; end = subst P (sym k.list.end) h.good.end };
+      good = record { env = k.now.env; drawn = h.good.drawn; rest = k.list.rest; end = subst P (sym k.list.end) h.good.end };
     })
 
     -- what commands stand in has its place, and so has what they begin with
@@ -185,12 +190,16 @@ module _ (P : ℕ → Type 0) (given : Given) (begin : P 0) (values : EvaluatesA
 
   -- ---- documents
 
-  nothing_at : (c : Compiled) (ts : List Tok) → StandAt P ts → Going P (λ (c : Compiled). Unit {0}) (nothing_after c ts)
-  nothing_at c [] h = record { stands = tt }
-  nothing_at c (t ∷ ts) h = record { stands = h.0 }
+  -- what is drawn fits an SVG document
+  abbrev pub FitsAt : Compiled → Type 0
+  FitsAt c = IfNarrow P (Fits c.drawing)
+
+  nothing_at : (c : Compiled) (ts : List Tok) → StandAt P ts → FitsAt c → Going P FitsAt (nothing_after c ts)
+  nothing_at c [] h k = record { stands = k }
+  nothing_at c (t ∷ ts) h k = record { stands = h.0 }
 
   picture_at : (at : ℕ) (list : Unread) → P at → StandAt P list.rest → P list.end
-      → Going P (λ (c : Compiled). Unit {0}) (picture_behind given at list)
+      → Going P FitsAt (picture_behind given at list)
   unfolding picture_behind
   picture_at at list p h last =
       then_going P {m = after_name Unbuilt (codes "tikzpicture") list} (record {
@@ -200,10 +209,11 @@ module _ (P : ℕ → Type 0) (given : Given) (begin : P 0) (values : EvaluatesA
       then_going P (level_at at (first_env given) p (first_env_at P given begin)) (λ env b.
       let start = first_configuration env inside in
       then_going P (styled_commands_here start (commands given) (commands_here start) 0 (codes "every picture") (A_picture at) start p
-      (begins given.budget stream_at (At P) start (record { env = b; rest = w.rest; end = w.last }))) (λ q r.
-      nothing_at (compiled q.picture q.units) (after_spaces q.list.rest) (spaces_at P q.list.rest r.rest))))
+      (begins given.budget stream_at (At P) start (record { env = b; drawn = (λ out beyond. first_in); rest = w.rest; end = w.last }))) (λ q r.
+      nothing_at (compiled q.picture q.units) (after_spaces q.list.rest) (spaces_at P q.list.rest r.rest) (λ out beyond.
+      compiled_fits q.picture q.units (r.drawn out beyond)))))
 
-  pub document_at : (list : Unread) → StandAt P list.rest → P list.end → Going P (λ (c : Compiled). Unit {0}) (document given list)
+  pub document_at : (list : Unread) → StandAt P list.rest → P list.end → Going P FitsAt (document given list)
   unfolding document
   document_at list h last =
       then_going P {m = next_token Unbuilt (past_spaces list)} (record {

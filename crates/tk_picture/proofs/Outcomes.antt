@@ -1,5 +1,5 @@
 -- What a reading tells of a source.
-use Rattle.std.proofs.Common.{◌≡◌, ℕ, ◌≤◌, List, [], ◌∷◌, length, map, take, Ok, Err, refl, ap, sym, subst, ◌∙◌}
+use Rattle.std.proofs.Common.{◌≡◌, ℕ, suc, ◌≤◌, arith, List, [], ◌∷◌, length, map, take, Ok, Err, refl, ap, sym, subst, ◌∙◌}
 use Rattle.std.specs.List.{All, AllByRecursion}
 use Rattle.std.specs.Str.{IsUtf8}
 use Rattle.tk_token.specs.declared.Fault.{Fault}
@@ -27,7 +27,13 @@ use Rattle.tk_picture.specs.Outcome.{font_units, given_for, document_of, IsOutco
 use Rattle.tk_picture.proofs.Evaluating.{evaluates_at}
 use Rattle.tk_picture.proofs.Numbered.{numbers_back}
 use Rattle.tk_picture.proofs.Sources.{some_tokens, one_answer, refused_place, token_places, end_place, first_place}
+use Rattle.tk_keys.proofs.Narrow.{IfNarrow}
+use Rattle.tk_svg.specs.Fitting.{Fits}
 use Rattle.tk_picture.proofs.CommandMoves.{document_at}
+
+-- what is drawn fits an SVG document, where some place is none of the source
+abbrev FitsIn : List ℕ → Compiled → Type 0
+FitsIn source c = IfNarrow (IsPlace source) (Fits c.drawing)
 
 -- what is given where the words are those
 abbrev pub given_words : List (List ℕ) → ℕ → Given
@@ -109,7 +115,7 @@ module _ (asked : Asked) (source : List ℕ) where
         (known_words names) asked.budget) (unread toks (length source)) (tok_places toks (token_places source (map (token_of names) toks) lexed))
         (end_place source (map (token_of names) toks) lexed)).stands
       where
-        told : (m : Answer Compiled) → m ≡ Err f → Stands (IsPlace source) (λ _. Unit {0}) m → IsPlace source f.at
+        told : (m : Answer Compiled) → m ≡ Err f → Stands (IsPlace source) (FitsIn source) m → IsPlace source f.at
         told (Ok c) e k = absurd cc
         told (Err g) e k = (let same : g ≡ f = cc in subst (λ (g : Fault). IsPlace source g.at) same k)
 
@@ -136,15 +142,24 @@ one_outcome asked source a b (of_tokens {tokens = s} {ev = e} t i) (of_tokens {t
     ap (λ (ts : Answer (List Token)). ts >>= document_of e asked (length source)) (one_answer source s r t u)
     ∙ ap (λ (ev : Evaluation). r >>= document_of ev asked (length source)) (sym (is_evaluated e i) ∙ is_evaluated f j)
 
--- and its fault stands in it
-module _ (asked : Asked) (source : List ℕ) (f : Fault) where
+-- its tokens are drawn at its places, and what is drawn fits
+module _ (asked : Asked) (source : List ℕ) where
   -- the tokens by numbers stand where the tokens stand
   by_numbers_places : (words : List (List ℕ)) (ts : List Token) → AllByRecursion (λ (t : Token). IsPlace source t.at) ts
       → StandAt (IsPlace source) (map (tok_of words) ts)
   by_numbers_places words [] k = tt
   by_numbers_places words (t ∷ ts) k = (k.0, by_numbers_places words ts k.1)
 
-  met_place : (m : Answer Compiled) → m ≡ Err f → Stands (IsPlace source) (λ _. Unit {0}) m → IsPlace source f.at
+  drawn_at : (ts : List Token) → Lexes source (Ok ts)
+      → Stands (IsPlace source) (FitsIn source) (document_of evaluated asked (length source) ts)
+  drawn_at ts l =
+      (document_at (IsPlace source) (given_for evaluated asked ts) (first_place source ts l)
+      (evaluates_at (IsPlace source) (known_words (words_of ts)) asked.budget) (unread (map (tok_of (words_of ts)) ts) (length source))
+      (by_numbers_places (words_of ts) ts (token_places source ts l)) (end_place source ts l)).stands
+
+-- and its fault stands in it
+module _ (asked : Asked) (source : List ℕ) (f : Fault) where
+  met_place : (m : Answer Compiled) → m ≡ Err f → Stands (IsPlace source) (FitsIn source) m → IsPlace source f.at
   met_place (Ok c) e k = absurd cc
   met_place (Err g) e k = (let same : g ≡ f = cc in subst (λ (g : Fault). IsPlace source g.at) same k)
 
@@ -153,9 +168,7 @@ module _ (asked : Asked) (source : List ℕ) (f : Fault) where
   drawn_place ev i ts l e =
       met_place (document_of evaluated asked (length source) ts)
       (ap (λ (ev : Evaluation). document_of ev asked (length source) ts) (is_evaluated ev i) ∙ e)
-      (document_at (IsPlace source) (given_for evaluated asked ts) (first_place source ts l)
-      (evaluates_at (IsPlace source) (known_words (words_of ts)) asked.budget) (unread (map (tok_of (words_of ts)) ts) (length source))
-      (by_numbers_places (words_of ts) ts (token_places source ts l)) (end_place source ts l)).stands
+      (drawn_at asked source ts l)
 
   answer_place : (ev : Evaluation) → IsEvaluation ev → (tokens : Answer (List Token)) → Lexes source tokens
       → (tokens >>= document_of ev asked (length source)) ≡ Err f → IsPlace source f.at
@@ -167,3 +180,30 @@ module _ (asked : Asked) (source : List ℕ) (f : Fault) where
 
   pub fault_in_source : IsOutcome asked source (Err f) → IsPlace source f.at
   fault_in_source is = outcome_place (Err f) is refl
+
+-- and its drawing fits an SVG document
+module _ (asked : Asked) (source : List ℕ) (c : Compiled) where
+  -- behind its end there is no place of it
+  behind_end : IsPlace source (suc (length source)) → ⊥
+  behind_end place = let within = place.within in omega arith
+
+  met_fit : (m : Answer Compiled) → m ≡ Ok c → Stands (IsPlace source) (FitsIn source) m → Fits c.drawing
+  met_fit (Ok d) e k = (let same : d ≡ c = cc in subst (λ (d : Compiled). Fits d.drawing) same (k (suc (length source)) behind_end))
+  met_fit (Err g) e k = absurd cc
+
+  drawn_fit : (ev : Evaluation) → IsEvaluation ev → (ts : List Token) → Lexes source (Ok ts) → document_of ev asked (length source) ts ≡ Ok c
+      → Fits c.drawing
+  drawn_fit ev i ts l e =
+      met_fit (document_of evaluated asked (length source) ts)
+      (ap (λ (ev : Evaluation). document_of ev asked (length source) ts) (is_evaluated ev i) ∙ e) (drawn_at asked source ts l)
+
+  answer_fit : (ev : Evaluation) → IsEvaluation ev → (tokens : Answer (List Token)) → Lexes source tokens
+      → (tokens >>= document_of ev asked (length source)) ≡ Ok c → Fits c.drawing
+  answer_fit ev i (Ok ts) l e = drawn_fit ev i ts l e
+  answer_fit ev i (Err g) l e = absurd cc
+
+  outcome_fit : (r : Answer Compiled) → IsOutcome asked source r → r ≡ Ok c → Fits c.drawing
+  outcome_fit r (of_tokens {tokens = s} {ev = ev} l i) e = answer_fit ev i s l e
+
+  pub drawing_in_range : IsOutcome asked source (Ok c) → Fits c.drawing
+  drawing_in_range is = outcome_fit (Ok c) is refl

@@ -1,10 +1,11 @@
 //! Laws of what sources stand for.
 
-ghost use Rattle.std.specs.Prelude.{◌≡◌, ℕ, List, Err};
+ghost use Rattle.std.specs.Prelude.{◌≡◌, ℕ, List, Ok, Err};
 ghost use Rattle.tk_token.specs.declared.Fault.{Fault as AFault};
 ghost use Rattle.tk_token.specs.Answers.{Answer};
 ghost use Rattle.tk_token.specs.Recursion.{by_size};
 ghost use Rattle.tk_keys.specs.Given.{Given};
+ghost use Rattle.tk_svg.specs.Fitting.{Fits};
 ghost use Rattle.tk_picture.specs.declared.Asked.{Asked as AnAsked};
 ghost use Rattle.tk_picture.specs.declared.Compiled.{Compiled as ACompiled};
 ghost use Rattle.tk_picture.specs.Progress.{Progress};
@@ -29,6 +30,14 @@ pub fn a_fault_stands_in_its_source()
     ensures { (asked : AnAsked) (source : List ℕ) (fault : AFault)
         → IsOutcome asked source (Err fault)
         → IsPlace source fault.at }
+{}
+
+/// A source's drawing fits an SVG document: its frame is a box that a document can have, and each of its paths begins with a
+/// move, is drawn with no negative width, and has a miter limit of at least one.
+pub fn a_drawing_fits_a_document()
+    ensures { (asked : AnAsked) (source : List ℕ) (found : ACompiled)
+        → IsOutcome asked source (Ok found)
+        → Fits found.drawing }
 {}
 
 /// Commands are what one step of their definition says.
