@@ -4,9 +4,13 @@
 
 mod anchors;
 mod borders;
+mod laws;
 mod nodes;
 
 pub use anchors::{anchor_point, at_angle, local_anchor, toward};
+pub use laws::{
+    a_coordinate_is_one_point, borders_lie_within_the_halves, the_last_node_of_a_name_is_found,
+};
 pub use nodes::Nodes;
 use tk_affine::Matrix;
 pub use tk_affine::{Anchor, Shape};
