@@ -11,14 +11,13 @@ use Rattle.std.proofs.Math.Nat.{mul-le-mul_left, mul-le-mul_right, div-le_of_le-
 square_more : (a b : ℕ) → a ≤ b → a * a ≤ b * b
 square_more a b le = let l = mul-le-mul_left a le in let r = mul-le-mul_right b le in omega (arith, l, r)
 
-pub root_most : (a b r : ℕ) → a ≤ 1099511627776 → b ≤ 1099511627776 → r * r ≤ a * a + b * b → r ≤ 2199023255552
-root_most a b r la lb le =
-    elim (cases_lt 2199023255552 r) [
+pub root_most : (a b r : ℕ) → r * r ≤ a * a + b * b → r ≤ a + b
+root_most a b r le =
+    elim (cases_lt (a + b) r) [
       | inl more ↦ absurd (
-          let m = square_more 2199023255553 r (omega arith) in
-          let s = square_more a 1099511627776 la in
-          let t = square_more b 1099511627776 lb in
-          omega (arith, m, s, t, le))
+          let m = square_more (a + b + 1) r (omega arith) in
+          let s : (a + b + 1) * (a + b + 1) ≡ a * a + b * b + 2 * (a * b) + 2 * a + 2 * b + 1 = grind arith in
+          omega (arith, m, s, le))
       | inr few ↦ few
     ]
 
@@ -33,17 +32,17 @@ root_least a b r lt =
 pub second_root_least : (a b r : ℕ) → a * a + b * b < (r + 1) * (r + 1) → b ≤ r
 second_root_least a b r lt = root_least b a r (omega (arith, lt))
 
-pub square_fits : (a : ℕ) → a ≤ 1099511627776 → Fits w128 (a * a)
-square_fits a la = let s = square_more a 1099511627776 la in record { fits = omega (arith, s) }
+pub square_fits : (a : ℕ) → a ≤ 4611686009837453316 → Fits w128 (a * a)
+square_fits a la = let s = square_more a 4611686009837453316 la in record { fits = omega (arith, s) }
 
-pub squares_fit : (a b : ℕ) → a ≤ 1099511627776 → b ≤ 1099511627776 → Fits w128 (a * a + b * b)
+pub squares_fit : (a b : ℕ) → a ≤ 4611686009837453316 → b ≤ 4611686009837453316 → Fits w128 (a * a + b * b)
 squares_fit a b la lb =
-    let s = square_more a 1099511627776 la in
-    let t = square_more b 1099511627776 lb in
+    let s = square_more a 4611686009837453316 la in
+    let t = square_more b 4611686009837453316 lb in
     record { fits = omega (arith, s, t) }
 
-pub root_fits : (a b r : ℕ) → a ≤ 1099511627776 → b ≤ 1099511627776 → r * r ≤ a * a + b * b → Fits w64 r
-root_fits a b r la lb le = record { fits = omega (arith, root_most a b r la lb le) }
+pub root_fits : (a b r : ℕ) → a ≤ 4611686009837453316 → b ≤ 4611686009837453316 → r * r ≤ a * a + b * b → Fits w64 r
+root_fits a b r la lb le = let most = root_most a b r le in record { fits = omega (arith, most, la, lb) }
 
 abs_neg : (k : ℕ) → unsigned_abs (neg_ℤ (pos k)) ≡ k
 abs_neg zero = refl

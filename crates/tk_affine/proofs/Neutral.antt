@@ -68,7 +68,7 @@ second_column : (m : Matrix) → IsMatrix m → vector_image m (record { x = pos
 unfolding vector_image
 second_column m h = point_is _ _ m.c m.d (second_kept m.a m.c) (second_kept m.b m.d) h.c h.d
 
-origin_shifted : (m : Matrix) → IsMatrix m → image m (record { x = pos 0; y = pos 0 }) ≡ Ok (record { x = m.tx; y = m.ty })
+pub origin_shifted : (m : Matrix) → IsMatrix m → image m (record { x = pos 0; y = pos 0 }) ≡ Ok (record { x = m.tx; y = m.ty })
 unfolding image
 origin_shifted m h = point_is _ _ m.tx m.ty (none_kept m.a m.c m.tx) (none_kept m.b m.d m.ty) h.tx h.ty
 

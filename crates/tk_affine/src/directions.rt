@@ -1,6 +1,6 @@
 //! Turns into a direction.
 
-ghost use Rattle.std.specs.Prelude.{◌≡◌, ◌≤◌, ◌^◌, unsigned_abs};
+ghost use Rattle.std.specs.Prelude.{◌≡◌, ◌≤◌, ◌^◌, ◌+◌, unsigned_abs};
 ghost use Rattle.tk_num.specs.Number.{IsScaled};
 ghost use Rattle.tk_affine.specs.Directions.{whole_length, component_of, turn_along};
 
@@ -8,14 +8,15 @@ use crate::Matrix;
 use crate::steps::{identity, turned};
 use tk_num::{ONE, Scaled};
 
-/// The length of a vector, cut downward.
-fn whole_length(x: i64, y: i64) -> u64
-    requires x { unsigned_abs x ≤ 2 ^ 40 }
-    requires y { unsigned_abs y ≤ 2 ^ 40 }
+/// The length of a vector, the root of x*x + y*y cut downward: that of (3,4) is 5, and that of (1,1) is 1. Each number is
+/// as wide as those of `ray`.
+pub fn whole_length(x: i64, y: i64) -> u64
+    requires x { unsigned_abs x ≤ 4611686009837453316 }
+    requires y { unsigned_abs y ≤ 4611686009837453316 }
     ensures value { result ≡ whole_length x y }
     ensures x { unsigned_abs x ≤ result }
     ensures y { unsigned_abs y ≤ result }
-    ensures most { result ≤ 2 ^ 41 }
+    ensures most { result ≤ unsigned_abs x + unsigned_abs y }
 {
     let (x, y) = (u128::from(x.unsigned_abs()), u128::from(y.unsigned_abs()));
     (x * x + y * y).isqrt() as u64

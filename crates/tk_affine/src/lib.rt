@@ -10,12 +10,12 @@ mod laws;
 mod numbers;
 mod steps;
 
-pub use directions::along;
+pub use directions::{along, whole_length};
 pub use faults::answer_at;
 pub use images::{apply, apply_vector};
 pub use inverses::{corner, inverse_apply, ray};
 pub use laws::{steps_go_on, unmoved_is_neutral, unmoved_points_stay};
-pub use numbers::{difference, point, share};
+pub use numbers::{difference, point, share, signed_by};
 pub use steps::{concat, identity};
 use tk_num::Scaled;
 

@@ -63,8 +63,8 @@ pub fn share(r: i64, n: i64, d: i64) -> i128
     i128::from(r) * i128::from(n) / i128::from(d)
 }
 
-/// x, negated where u is negative.
-pub(crate) fn signed_by(u: i64, x: i64) -> i64
+/// x, negated where u is negative, whatever the sign of x itself.
+pub fn signed_by(u: i64, x: i64) -> i64
     requires { unsigned_abs x ≤ 4611686009837453316 }
     ensures value { result ≡ signed_by u x }
     ensures within { unsigned_abs result ≤ 4611686009837453316 }

@@ -16,7 +16,7 @@ root_is x y a b r ea eb low high =
 part_is : (r u : ℕ) (z : ℤ) → SFits w64 z → r ≡ u → u ≡ unsigned_abs (to_z w64 (of_z w64 z)) → r ≡ unsigned_abs z
 part_is r u z fits e h = e ∙ h ∙ ap unsigned_abs (to_z-of_z w64 z fits)
 
-part_within : (r u : ℕ) (z : ℤ) → SFits w64 z → r ≡ u → u ≡ unsigned_abs (to_z w64 (of_z w64 z)) → unsigned_abs z ≤ 1099511627776 → r ≤ 1099511627776
+part_within : (r u : ℕ) (z : ℤ) → SFits w64 z → r ≡ u → u ≡ unsigned_abs (to_z w64 (of_z w64 z)) → unsigned_abs z ≤ 4611686009837453316 → r ≤ 4611686009837453316
 part_within r u z fits e h le = rw (part_is r u z fits e h) le
 
 pub returns-clause-value : goal.returns-clause-value
@@ -26,11 +26,14 @@ returns-clause-value c =
     (part_is c.from-y.result c.unsigned_abs-2.result c.args.y c.ranges.y c.from-y.ensures c.unsigned_abs-2.ensures.value)
     c.isqrt.ensures.square_le c.isqrt.ensures.next_square_gt
 
+most_is : (x y : ℤ) (a b r : ℕ) → a ≡ unsigned_abs x → b ≡ unsigned_abs y → r * r ≤ a * a + b * b → r ≤ unsigned_abs x + unsigned_abs y
+most_is x y a b r ea eb low = rw (ea, eb) at (root_most a b r low)
+
 pub returns-clause-most : goal.returns-clause-most
 returns-clause-most c =
-    root_most c.from-x.result c.from-y.result c.isqrt.result
-    (part_within c.from-x.result c.unsigned_abs.result c.args.x c.ranges.x c.from-x.ensures c.unsigned_abs.ensures.value c.requires.x)
-    (part_within c.from-y.result c.unsigned_abs-2.result c.args.y c.ranges.y c.from-y.ensures c.unsigned_abs-2.ensures.value c.requires.y)
+    most_is c.args.x c.args.y c.from-x.result c.from-y.result c.isqrt.result
+    (part_is c.from-x.result c.unsigned_abs.result c.args.x c.ranges.x c.from-x.ensures c.unsigned_abs.ensures.value)
+    (part_is c.from-y.result c.unsigned_abs-2.result c.args.y c.ranges.y c.from-y.ensures c.unsigned_abs-2.ensures.value)
     c.isqrt.ensures.square_le
 
 pub overflow_mul-x : goal.overflow_mul-x

@@ -1,0 +1,4 @@
+pub mod Parts
+pub mod NamesGiven
+pub mod Centres
+pub mod Within
