@@ -100,8 +100,7 @@ module _ (P : ℕ → Type 0) (given : Given) (begin : P 0) (evaluates : Evaluat
       let begun : IfNarrow P (BegunIn (with_pieces segs (in_subpath (origin_of c.env) c.picture.path))) = (λ out beyond.
       let o = origin_at P c h.good out beyond in
       following_in (origin_of c.env) o segs (in_subpath (origin_of c.env) c.picture.path) (k out beyond)
-      (in_subpath_in (origin_of c.env) o c.picture.path (path_at P c h.good out beyond))) in
-      (
+      (in_subpath_in (origin_of c.env) o c.picture.path (path_at P c h.good out beyond))) in (
         same_here P given from gone (with_pieces segs (in_subpath (origin_of c.env) c.picture.path)) c h (λ out beyond. (begun out beyond).path),
         begun,
       )

@@ -8,8 +8,8 @@ mod laws;
 mod picture;
 
 pub use laws::{
-    a_drawing_fits_a_document, a_fault_stands_in_its_source, a_source_has_one_outcome, commands_are_never_stuck,
-    commands_are_their_step, each_source_has_an_outcome,
+    a_drawing_fits_a_document, a_fault_stands_in_its_source, a_source_has_one_outcome,
+    commands_are_never_stuck, commands_are_their_step, each_source_has_an_outcome,
 };
 pub use picture::compile;
 use tk_item::Drawing;
