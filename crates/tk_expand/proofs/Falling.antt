@@ -70,20 +70,6 @@ module _ (budget : ℕ) where
   pub less_falls : (s r : Stream) → LessLeft s r → Falls s r
   less_falls s r f = record { end = f.end; units = f.units; work_falls = (let a = f.less in omega arith) }
 
-  pub less_then : (s r q : Stream) → LessLeft s r → Falls r q → LessLeft s q
-  less_then s r q f g = record {
-    end = g.end ∙ f.end;
-    units = (let a = f.units in let b = g.units in omega arith);
-    less = (let a = f.less in let b = g.work_falls in omega arith);
-  }
-
-  pub then_less : (s r q : Stream) → Falls s r → LessLeft r q → LessLeft s q
-  then_less s r q f g = record {
-    end = g.end ∙ f.end;
-    units = (let a = f.units in let b = g.units in omega arith);
-    less = (let a = f.work_falls in let b = g.less in omega arith);
-  }
-
   pub takes_falls : (s : Stream) (n : Next) → Takes s n → Falls s n.stream
   takes_falls s n f = record { end = f.end; units = f.units; work_falls = (let a = f.work_falls in omega arith) }
 
