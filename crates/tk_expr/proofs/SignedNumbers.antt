@@ -1,6 +1,6 @@
 -- Numbers below 0, and from 0 on.
-use Rattle.std.proofs.Common.{◌≡◌, ℕ, zero, suc, ◌/◌, ◌≤◌, ℤ, pos, negsuc, neg_ℤ, unsigned_abs, Bool, true, false, Ok, Err}
-use Rattle.std.proofs.Common.{refl, sym, subst, ap, ◌∙◌, add-one, arith, to_z, of_z}
+use Rattle.std.proofs.Common.{◌≡◌, ℕ, zero, suc, ◌/◌, ℤ, pos, negsuc, neg_ℤ, unsigned_abs, Bool, true, false, Ok, Err}
+use Rattle.std.proofs.Common.{refl, subst, add-one, arith, to_z, of_z}
 use Rattle.std.specs.Prelude.{if◌then◌else◌, nat_le}
 use Rattle.std.specs.Int.Signed.{lt_z}
 use Rattle.std.specs.Int.{w64}
