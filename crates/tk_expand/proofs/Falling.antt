@@ -6,11 +6,10 @@ use Rattle.std.proofs.Common.{refl, ◌∙◌, ap, arith, length-append}
 use Rattle.std.proofs.lemmas.Bool.{ltb-false}
 use Rattle.tk_token.specs.declared.Kind.{Kind}
 use Rattle.tk_token.specs.declared.Tok.{Tok}
-use Rattle.tk_token.specs.declared.Code.{Code}
 use Rattle.tk_token.specs.declared.Code.TheVariants.{Budget}
 use Rattle.tk_token.specs.Answers.{Answer, ◌>>=◌, fault}
 use Rattle.tk_token.specs.Groups.{Cut}
-use Rattle.tk_token.specs.Kinds.{is_char, is_space}
+use Rattle.tk_token.specs.Kinds.{is_space}
 use Rattle.tk_token.specs.Recursion.{by_size, AsksSmaller}
 use Rattle.tk_token.proofs.Answering.{then_holds, then_alike}
 use Rattle.tk_token.proofs.Fixpoint.{kept, independent, unbounded}

@@ -1,5 +1,5 @@
 -- How long arguments are, and what stands behind them.
-use Rattle.std.specs.Prelude.{◌≡◌, ℕ, zero, suc, ◌+◌, ◌≤◌, ◌<◌, List, [], ◌∷◌, length, Option, Some, None, Ok, IfSome, IfOk}
+use Rattle.std.specs.Prelude.{ℕ, zero, suc, ◌+◌, ◌≤◌, ◌<◌, List, [], ◌∷◌, length, Option, Some, None, IfSome, IfOk}
 use Rattle.std.specs.List.{prefix_len}
 use Rattle.std.proofs.Common.{arith, length-drop}
 use Rattle.tk_token.specs.declared.Kind.{Kind}

@@ -7,7 +7,7 @@ use Rattle.std.specs.FinMap as map
 use Rattle.tk_store.specs.declared.Entry.{Entry}
 use Rattle.tk_store.specs.declared.Macro.{Macro}
 use Rattle.tk_store.specs.declared.tables.Saved.{Saved}
-use Rattle.tk_store.specs.declared.tables.Saved.TheVariants.{Macro as Replaced, NoMacro, Key as ReplacedKey, NoKey}
+use Rattle.tk_store.specs.declared.tables.Saved.TheVariants.{Macro as Replaced, NoMacro, NoKey}
 use Rattle.tk_store.specs.Levels.{Level, Levels, opened, CountsOne, SetsMacro, SetsKey}
 use Rattle.tk_store.specs.Undo.{Tables, macros_in, keys_in, before, before_all, made_since, made_until, settings_at, level_of, outer_of, levels_of}
 use Rattle.tk_store.specs.Undo.{AreMarks}
