@@ -29,7 +29,7 @@ use Rattle.tk_look.specs.declared.Look.{Look}
 use Rattle.tk_look.proofs.Places.{Fine, Within}
 use Rattle.tk_affine.specs.Faults.{answer_at}
 use Rattle.tk_coord.specs.Coordinates.{translated, point_in_numbers, sign_in_front, corner_between}
-use Rattle.tk_coord.specs.Coordinates.{point_by, lone_point, by_sign, point_step, absolute_point, relative_point, without_node, target_of}
+use Rattle.tk_coord.specs.Coordinates.{point_by, lone_point, by_sign, point_step, absolute_point, relative_point, target_of}
 
 module _ (P : ℕ → Type 0) where
   fine_then : {A B : Type 0} (m : Answer A) (f : A → Answer B) → Fine P m → ((x : A) → Fine P (f x)) → Fine P (m >>= f)

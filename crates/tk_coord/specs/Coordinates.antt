@@ -1,6 +1,6 @@
 -- From the text of a coordinate to its point (the PGF manual, section "Specifying Coordinates").
 use Rattle.std.specs.Prelude.{ℕ, if◌then◌else◌, is_some, List, [], ◌∷◌, length, drop, codes, ◌+ℤ◌}
-use Rattle.std.specs.Prelude.{Option, Some, None, Result, Ok, Err}
+use Rattle.std.specs.Prelude.{Option, Some, None, Result, Ok}
 use Rattle.tk_item.specs.declared.Point.{Point}
 use Rattle.tk_token.specs.declared.Code.{Code}
 use Rattle.tk_token.specs.declared.Code.TheVariants.{Coordinate, Unbuilt}

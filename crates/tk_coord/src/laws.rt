@@ -17,8 +17,8 @@ ghost use Rattle.tk_coord.specs.Coordinates.{corner_between, point_step, absolut
 
 /// The point of a coordinate without `+` is what one step of its definition says.
 pub fn a_point_is_its_step()
-    ensures { (ev : Evaluation) (font : TheFontUnits) (look : ALook) (matrix : AMatrix) (at : ℕ) (text : List Tok)
-        → absolute_point ev font look matrix at text
+    ensures { (ev : Evaluation) (font : TheFontUnits) (look : ALook) (matrix : AMatrix) (at : ℕ)
+        → (text : List Tok) → absolute_point ev font look matrix at text
         ≡ point_step ev font look matrix at (absolute_point ev font look matrix at) text }
 {}
 
@@ -33,7 +33,8 @@ pub fn a_point_is_never_stuck()
 /// The fault of a coordinate stands at one of its tokens, or at its `(`.
 pub fn a_fault_of_a_coordinate_stands_in_its_text()
     ensures { (ev : Evaluation) → IsEvaluation ev
-        → (font : TheFontUnits) (look : ALook) (matrix : AMatrix) (at : ℕ) (from : Option APoint) (text : List Tok)
+        → (font : TheFontUnits) (look : ALook) (matrix : AMatrix) (at : ℕ)
+        → (from : Option APoint) (text : List Tok)
         → IfErr (target_of ev font look matrix at from text) (λ fault. IsPlaceOf at text fault.at) }
 {}
 

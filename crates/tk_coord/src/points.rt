@@ -41,7 +41,8 @@ impl CoordinateSystem<'_> {
     /// The point of a text without a sign, which may have Spaces round it.
     fn lone_point(&self, text: &[Tok], at: u32) -> Result<Point, Fault>
         ensures { result
-            ≡ spec.lone_point evaluated self.now.font self.now.look.now self.now.matrix at (trimmed text.now) }
+            ≡ spec.lone_point evaluated self.now.font self.now.look.now self.now.matrix at
+            (trimmed text.now) }
     {
         let text = trimmed(text);
         match pair(text, self.font, at)? {
@@ -54,7 +55,8 @@ impl CoordinateSystem<'_> {
     /// lead back: in `a -| b |- c` the corner of b and c comes first, then that of a and this corner.
     fn absolute_point(&self, alloc: Global, text: &[Tok], at: u32) -> Result<Point, Refusal>
         ensures { Gives (λ point. point) result
-            (spec.absolute_point evaluated self.now.font self.now.look.now self.now.matrix at text.now) }
+            (spec.absolute_point evaluated self.now.font self.now.look.now self.now.matrix at
+            text.now) }
     {
         let mut starts = Vec::new(alloc);
         let mut rest = text;
@@ -72,7 +74,8 @@ impl CoordinateSystem<'_> {
     #[tactic(auto, unfolding(crate::specs::Coordinates::relative_point))]
     fn relative_point(&self, from: Point, text: &[Tok], at: u32) -> Result<Point, Fault>
         ensures { result
-            ≡ spec.relative_point evaluated self.now.font self.now.look.now self.now.matrix at from (trimmed text.now) }
+            ≡ spec.relative_point evaluated self.now.font self.now.look.now self.now.matrix at from
+            (trimmed text.now) }
     {
         let text = trimmed(text);
         if first_outside(text, Sought::Corner).is_some() {
@@ -95,7 +98,8 @@ impl CoordinateSystem<'_> {
         at: u32,
     ) -> Result<TextTarget, Refusal>
         ensures { Gives (λ target. target) result
-            (spec.target_of evaluated self.now.font self.now.look.now self.now.matrix at from text.now) }
+            (spec.target_of evaluated self.now.font self.now.look.now self.now.matrix at from
+            text.now) }
     {
         match from {
             Some(from) => Ok(without_node(self.relative_point(from, text, at)?)),

@@ -6,11 +6,10 @@ use Rattle.std.proofs.Common.{refl, ◌∙◌, ap, arith, length-append}
 use Rattle.std.proofs.lemmas.Bool.{ltb-false}
 use Rattle.tk_token.specs.declared.Kind.{Kind}
 use Rattle.tk_token.specs.declared.Tok.{Tok}
-use Rattle.tk_token.specs.declared.Code.{Code}
 use Rattle.tk_token.specs.declared.Code.TheVariants.{Budget}
 use Rattle.tk_token.specs.Answers.{Answer, ◌>>=◌, fault}
 use Rattle.tk_token.specs.Groups.{Cut}
-use Rattle.tk_token.specs.Kinds.{is_char, is_space}
+use Rattle.tk_token.specs.Kinds.{is_space}
 use Rattle.tk_token.specs.Recursion.{by_size, AsksSmaller}
 use Rattle.tk_token.proofs.Answering.{then_holds, then_alike}
 use Rattle.tk_token.proofs.Fixpoint.{kept, independent, unbounded}
@@ -69,20 +68,6 @@ module _ (budget : ℕ) where
 
   pub less_falls : (s r : Stream) → LessLeft s r → Falls s r
   less_falls s r f = record { end = f.end; units = f.units; work_falls = (let a = f.less in omega arith) }
-
-  pub less_then : (s r q : Stream) → LessLeft s r → Falls r q → LessLeft s q
-  less_then s r q f g = record {
-    end = g.end ∙ f.end;
-    units = (let a = f.units in let b = g.units in omega arith);
-    less = (let a = f.less in let b = g.work_falls in omega arith);
-  }
-
-  pub then_less : (s r q : Stream) → Falls s r → LessLeft r q → LessLeft s q
-  then_less s r q f g = record {
-    end = g.end ∙ f.end;
-    units = (let a = f.units in let b = g.units in omega arith);
-    less = (let a = f.work_falls in let b = g.less in omega arith);
-  }
 
   pub takes_falls : (s : Stream) (n : Next) → Takes s n → Falls s n.stream
   takes_falls s n f = record { end = f.end; units = f.units; work_falls = (let a = f.work_falls in omega arith) }

@@ -1,5 +1,5 @@
 -- How long arguments are, and what stands behind them.
-use Rattle.std.specs.Prelude.{◌≡◌, ℕ, zero, suc, ◌+◌, ◌≤◌, ◌<◌, List, [], ◌∷◌, length, Option, Some, None, Ok, IfSome, IfOk}
+use Rattle.std.specs.Prelude.{ℕ, zero, suc, ◌+◌, ◌≤◌, ◌<◌, List, [], ◌∷◌, length, Option, Some, None, IfSome, IfOk}
 use Rattle.std.specs.List.{prefix_len}
 use Rattle.std.proofs.Common.{arith, length-drop}
 use Rattle.tk_token.specs.declared.Kind.{Kind}
@@ -9,7 +9,7 @@ use Rattle.tk_token.specs.declared.Code.TheVariants.{MacroArg}
 use Rattle.tk_token.specs.Answers.{or_fault}
 use Rattle.tk_token.specs.Groups.{Cut, group_of}
 use Rattle.tk_token.specs.Spaces.{is_space_token, after_spaces}
-use Rattle.tk_token.proofs.Answering.{then_holds, or_fault_holds, known_of}
+use Rattle.tk_token.proofs.Answering.{then_holds, or_fault_holds}
 use Rattle.tk_token.proofs.Outside.{group_shorter}
 use Rattle.tk_store.specs.declared.Macro.{Macro}
 use Rattle.tk_expand.specs.Arguments.{argument_from, argument_in, argument_of, Arguments, arguments_of, call_text}
@@ -62,8 +62,3 @@ unfolding call_text
 text_rest called at ts =
     then_holds (λ (a : Arguments). length a.rest ≤ length ts) (λ (c : Cut). length c.rest ≤ length ts) (arguments_of at called.args ts) _
     (arguments_no_longer at called.args ts) (λ a h. h)
-
--- the same where the argument is known
-pub known_no_longer : (at : ℕ) (ts : List Tok) (c : Cut) → or_fault (argument_of ts) MacroArg at ≡ Ok c → IsNoLonger ts c
-known_no_longer at ts c is = known_of (IsNoLonger ts) (or_fault (argument_of ts) MacroArg at) c is (or_fault_holds (IsNoLonger ts) (argument_of ts)
-    MacroArg at (argument_no_longer ts))

@@ -1,11 +1,9 @@
 -- Where the tokens and the faults stand of what is read through expansion.
 use Rattle.std.specs.Prelude.{◌≡◌, ℕ, suc, Bool, true, false, if◌then◌else◌, List, [], ◌∷◌, Option, Some, None, Ok}
 use Rattle.std.proofs.Common.{refl, sym, subst, arith}
-use Rattle.tk_token.specs.declared.Code.{Code}
-use Rattle.tk_token.specs.declared.Kind.{Kind}
 use Rattle.tk_token.specs.declared.Tok.{Tok}
-use Rattle.tk_token.specs.Answers.{Answer, fault}
-use Rattle.tk_token.specs.Kinds.{is_char, is_space}
+use Rattle.tk_token.specs.Answers.{Answer}
+use Rattle.tk_token.specs.Kinds.{is_space}
 use Rattle.tk_store.specs.Levels.{Macros}
 use Rattle.tk_expand.specs.Expand.{Stream, work, front}
 use Rattle.tk_expand.specs.Reading.{Next, first_taken, is_there, place_of, next, next_solid}

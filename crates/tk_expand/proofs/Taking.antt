@@ -1,12 +1,10 @@
 -- Tokens through expansion, as the code takes them.
-use Rattle.std.proofs.Common.{◌≡◌, ℕ, ◌+◌, ◌<◌, ◌≤◌, Bool, true, false, List, length, get_or, drop, Some, None, Ok, refl, ap, ◌∙◌, add-one, drop-cons}
+use Rattle.std.proofs.Common.{◌≡◌, ℕ, Bool, true, false, Some, None, Ok, ap, ◌∙◌}
 use Rattle.std.specs.Prelude.{if◌then◌else◌}
-use Rattle.std.proofs.lemmas.List.{drop_all}
-use Rattle.tk_token.specs.declared.Code.{Code}
 use Rattle.tk_token.specs.declared.Tok.{Tok}
 use Rattle.tk_token.specs.declared.Refusal.{Refusal}
 use Rattle.tk_token.specs.Answers.{Answer, ◌>>=◌}
-use Rattle.tk_token.specs.Kinds.{is_char, is_space}
+use Rattle.tk_token.specs.Kinds.{is_space}
 use Rattle.tk_token.specs.Refusals.{Fails}
 use Rattle.tk_token.proofs.Answering.{then_is, fails_then, fails_as}
 use Rattle.tk_store.specs.Levels.{Macros}

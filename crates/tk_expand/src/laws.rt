@@ -44,7 +44,8 @@ pub fn a_solid_token_is_its_step()
 /// It is the same whatever the answer is where no work is left.
 pub fn a_solid_token_is_never_stuck()
     ensures { (budget : ℕ) (macros : Macros) (stuck : Answer Next) (s : Stream)
-        → next_solid budget macros s ≡ by_size (work budget) stuck (next_solid_step budget macros) s }
+        → next_solid budget macros s
+        ≡ by_size (work budget) stuck (next_solid_step budget macros) s }
 {}
 
 /// A macro call is never in front of what the front of a list is rewritten to.

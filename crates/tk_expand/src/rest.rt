@@ -121,7 +121,8 @@ impl Rest {
         stop: Stop,
     ) -> Result<Option<Vec<Tok>>, AllocError>
         ensures gives { IfOk result
-            (λ found. option_map (λ front. cut front.items self.new) found ≡ before_stop stop self.old) }
+            (λ found. option_map (λ front. cut front.items self.new) found
+            ≡ before_stop stop self.old) }
         ensures none { IfOk result (λ found. IfNone found (self.new ≡ self.old)) }
         ensures err { OnErr result (self.new ≡ self.old) }
     {

@@ -55,22 +55,6 @@ front_from P m n at k ps qs e h = subst (λ (l : List Piece). P (head_mark m l) 
 
 -- ---- operators in front
 
--- the mark that an operator begins with
-abbrev first_mark : Operator → Mark
-first_mark Raise = Caret
-first_mark Multiply = Star
-first_mark Divide = Slash
-first_mark Add = Plus
-first_mark Subtract = Minus
-first_mark Same = Equals
-first_mark Differs = Bang
-first_mark AtMost = Less
-first_mark AtLeast = Greater
-first_mark Below = Less
-first_mark Above = Greater
-first_mark Both = Ampersand
-first_mark Either = Bar
-
 module _ (font : FontUnits) where
   -- how a text goes on behind an operand, with an operator of the level whose mark is in front
   abbrev pub OperatorAt : Precedence → Behind → Found → Mark → ℕ → List Piece → Type 0

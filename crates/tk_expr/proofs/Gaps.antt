@@ -24,9 +24,6 @@ use Rattle.tk_expr.proofs.Continuations.{after_signed, after_postfix, after_prim
 abbrev pub Alike : List Piece → List Piece → Type 0
 Alike ps qs = skip ps ≡ skip qs
 
-pub alike_sym : (ps qs : List Piece) → Alike ps qs → Alike qs ps
-alike_sym ps qs e = sym e
-
 stands_alike : (o : Operator) (at : ℕ) (ps qs rs : List Piece) → Alike ps qs → Stands o at ps rs → Stands o at qs rs
 stands_alike Raise at ps qs rs e h = sym e ∙ h
 stands_alike Same at ps qs rs e h = (h.0, sym e ∙ h.1)

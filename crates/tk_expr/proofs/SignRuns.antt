@@ -7,7 +7,7 @@ use Rattle.tk_expr.specs.declared.operators.Truth.{Truth}
 use Rattle.tk_expr.specs.declared.operators.Truth.TheVariants.{Itself, Affirmed, Denied}
 use Rattle.tk_expr.specs.declared.operators.Signs.{Signs}
 use Rattle.tk_expr.specs.Values.{truth, is_true, prefixed}
-use Rattle.tk_expr.specs.Machine.{Found, no_signs, with_prefix, signed_by, signed_found}
+use Rattle.tk_expr.specs.Machine.{Found, no_signs, with_prefix, number_behind_signs, signed_found}
 use Rattle.tk_expr.proofs.Readings.{prefixed_found}
 
 pub signed_none : (x : Found) → signed_found no_signs x ≡ x
@@ -32,7 +32,7 @@ not_not false = refl
 
 -- one more sign further in
 sign_more : (sign : Prefix) (negative : Bool) (t : Truth) (x : ℤ)
-    → signed_by (with_prefix sign (record { negative = negative; truth = t })) x ≡ signed_by (record { negative = negative; truth = t })
+    → number_behind_signs (with_prefix sign (record { negative = negative; truth = t })) x ≡ number_behind_signs (record { negative = negative; truth = t })
     (prefixed sign x)
 sign_more Keep n t x = refl
 sign_more Negate true Itself x = sym (neg_ℤ-neg_ℤ x)

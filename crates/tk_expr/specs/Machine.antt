@@ -73,12 +73,12 @@ as_truth Affirmed x = truth (is_true x)
 as_truth Denied x = truth (not (is_true x))
 
 -- what signs make of a number
-abbrev pub signed_by : Signs → ℤ → ℤ
-signed_by s x = if s.negative then prefixed Negate (as_truth s.truth x) else as_truth s.truth x
+abbrev pub number_behind_signs : Signs → ℤ → ℤ
+number_behind_signs s x = if s.negative then prefixed Negate (as_truth s.truth x) else as_truth s.truth x
 
 -- what signs make of a number that may be a fault
 abbrev pub signed_found : Signs → Found → Found
-signed_found s x = x >>= λ v. Ok (signed_by s v)
+signed_found s x = x >>= λ v. Ok (number_behind_signs s v)
 
 -- ---- operators
 

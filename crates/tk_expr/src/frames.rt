@@ -16,6 +16,8 @@ use tk_token::{Code, Fault};
 const MOST_FRAMES: usize = 64;
 
 /// What is open, innermost first: at most 64 frames. It takes no memory.
+// An `ArrayVec` would do the same. Of a call that moves a frame into one the checker makes a plan that it can't build,
+// since it isn't told where the numbers in the frame come from. So it is an array with a length.
 #[derive(Drop)]
 pub struct Frames {
     stack: [OpenFrame; 64],
@@ -52,10 +54,7 @@ impl Frames {
         ensures err { IfErr result (λ e. e ≡ record { code = TooDeep; at = at }) }
     {
         if self.len >= MOST_FRAMES {
-            return Err(Fault {
-                code: Code::TooDeep,
-                at,
-            });
+            return Err(Fault::new(Code::TooDeep, at));
         }
         self.stack[self.len] = frame;
         self.len += 1;
@@ -64,7 +63,8 @@ impl Frames {
 
     /// Takes the innermost one off.
     pub(crate) fn pop(&mut self) -> Option<OpenFrame>
-        ensures frame { MatchOption result ((self.old ≡ []) × (self.new ≡ [])) (λ frame. self.old ≡ frame ∷ self.new) }
+        ensures frame { MatchOption result ((self.old ≡ []) × (self.new ≡ []))
+            (λ frame. self.old ≡ frame ∷ self.new) }
         ensures room { OnSome result (length self.new < 64) }
     {
         if self.len == 0 {
@@ -76,8 +76,8 @@ impl Frames {
 
     /// The condition and the first value of the innermost one, where it is a `?` that has its `:`.
     fn choice(&self) -> Option<(Found, Found)>
-        ensures { MatchOption result (spec.is_choice self.now ≡ false) (λ found. self.now
-            ≡ Else found.0 found.1 ∷ drop 1 self.now) }
+        ensures { MatchOption result (spec.is_choice self.now ≡ false)
+            (λ found. self.now ≡ Else found.0 found.1 ∷ drop 1 self.now) }
     {
         if self.len == 0 {
             return None;

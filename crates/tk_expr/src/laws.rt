@@ -19,8 +19,8 @@ pub fn evaluated_is_the_answer()
 
 /// No tokens have two answers.
 pub fn a_text_has_one_answer()
-    ensures { (font : TheFontUnits) (at : ℕ) (toks : List Tok) (a b : Answer AValue) → Evaluates font at toks a
-        → Evaluates font at toks b → a ≡ b }
+    ensures { (font : TheFontUnits) (at : ℕ) (toks : List Tok) (a b : Answer AValue)
+        → Evaluates font at toks a → Evaluates font at toks b → a ≡ b }
 {}
 
 /// The value of an expression is in range, whatever the units of the font are.
@@ -31,8 +31,8 @@ pub fn a_value_is_in_range()
 
 /// The fault of an expression stands at one of its tokens, or at the given place.
 pub fn a_fault_stands_in_its_text()
-    ensures { (font : TheFontUnits) (at : ℕ) (toks : List Tok) (answer : Answer AValue) → Evaluates font at toks answer
-        → IfErr answer (λ fault. IsPlaceOf at toks fault.at) }
+    ensures { (font : TheFontUnits) (at : ℕ) (toks : List Tok) (answer : Answer AValue)
+        → Evaluates font at toks answer → IfErr answer (λ fault. IsPlaceOf at toks fault.at) }
 {}
 
 /// So does the fault of a pair.
@@ -43,5 +43,6 @@ pub fn a_fault_of_a_pair_stands_in_its_text()
 
 /// The fault of a vector stands at the place that is given for it.
 pub fn a_fault_of_a_vector_stands_at_its_place()
-    ensures { (x y : ℤ) (at : ℕ) (pair : APair) → IfErr (vector_of x y at pair) (λ fault. fault.at ≡ at) }
+    ensures { (x y : ℤ) (at : ℕ) (pair : APair)
+        → IfErr (vector_of x y at pair) (λ fault. fault.at ≡ at) }
 {}

@@ -81,7 +81,7 @@ impl Signs {
     /// What the signs make of a number.
     #[inline(always)]
     fn of(self, x: Scaled) -> Scaled
-        ensures { result ≡ spec.signed_by self x }
+        ensures { result ≡ spec.number_behind_signs self x }
     {
         if self.negative {
             return as_truth(self.truth, x).negated();

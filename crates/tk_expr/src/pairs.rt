@@ -41,7 +41,8 @@ fn plane(front: &[Tok], back: &[Tok], font: &FontUnits, at: u32) -> Result<Value
 
 /// The radii `r and s`, or `r`, which is both.
 fn radii(angle: Scaled, back: &[Tok], font: &FontUnits, at: u32) -> Result<ValuePair, Fault>
-    ensures { result ≡ spec.radii evaluated font.now at angle back.now (first_outside begins_and back.now) }
+    ensures { result
+        ≡ spec.radii evaluated font.now at angle back.now (first_outside begins_and back.now) }
 {
     match first_outside(back, Sought::And) {
         Some((front, rest)) => {

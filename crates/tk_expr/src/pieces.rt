@@ -263,8 +263,8 @@ fn run_mark(letters: &[Tok]) -> Mark
 /// The piece in front, and the tokens after it.
 #[inline(always)]
 pub(crate) fn next_piece(list: &[Tok]) -> Option<(Piece, &[Tok])>
-    ensures pieces { MatchOption result (spec.pieces_of list.now ≡ []) (λ found. spec.pieces_of list.now
-        ≡ found.0 ∷ spec.pieces_of found.1.now) }
+    ensures pieces { MatchOption result (spec.pieces_of list.now ≡ [])
+        (λ found. spec.pieces_of list.now ≡ found.0 ∷ spec.pieces_of found.1.now) }
     ensures shorter { IfSome result (λ found. length found.1.now < length list.now) }
 {
     let (first, tail) = list.split_first()?;

@@ -67,7 +67,8 @@ fn longer(first: Decimal, list: &[Tok], font: &FontUnits) -> Option<(Found, bool
 /// A decimal with the digits and the point that stand in front, and what stands behind them.
 #[inline(always)]
 fn all_digits(first: Decimal, list: &[Tok]) -> (Decimal, &[Tok])
-    ensures { (negative : Bool) → Reaches (counting first negative) list.now (counting result.0 negative) result.1.now }
+    ensures { (negative : Bool)
+        → Reaches (counting first negative) list.now (counting result.0 negative) result.1.now }
 {
     let mut decimal = first;
     let mut rest = list;

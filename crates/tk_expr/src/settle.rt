@@ -109,7 +109,8 @@ impl Pending {
     /// No power waits any more, and no sign before one.
     #[inline(always)]
     fn settle_power(&mut self)
-        ensures { self.new ≡ record self.old { exponent = no_signs; power = None; signs = no_signs } }
+        ensures { self.new
+            ≡ record self.old { exponent = no_signs; power = None; signs = no_signs } }
     {
         self.exponent = Signs::default();
         self.power = None;

@@ -160,7 +160,8 @@ impl ExprState {
 
     /// A sign before an operand, or before an exponent.
     fn sign(&mut self, sign: Prefix, at: u32) -> Result<(), Fault>
-        ensures { Leads result self.new (spec.sign_operand self.old.pending.power sign at self.old) }
+        ensures { Leads result self.new
+            (spec.sign_operand self.old.pending.power sign at self.old) }
     {
         match self.pending.power {
             Some(_) => self.sign_exponent(sign, at),
@@ -262,7 +263,8 @@ impl ExprState {
     /// Ends the innermost expression behind its last operand, and gives its value.
     pub(crate) fn close(&mut self, x: Found) -> Found
         ensures value { result ≡ (spec.closed_behind x self.old).value }
-        ensures frames { self.new ≡ record self.old { frames = (spec.closed_behind x self.old).frames } }
+        ensures frames { self.new
+            ≡ record self.old { frames = (spec.closed_behind x self.old).frames } }
     {
         let value = self.pending.disjoined(x);
         self.frames.close(value)
@@ -288,7 +290,8 @@ impl ExprState {
         saved: Pending,
         at: u32,
     ) -> Result<(), Fault>
-        ensures { Leads result self.new (spec.bracket_ends at bracket value saved self.old.frames self.old) }
+        ensures { Leads result self.new
+            (spec.bracket_ends at bracket value saved self.old.frames self.old) }
     {
         match bracket {
             Bracket::Plain => self.leave(value, saved),
@@ -326,7 +329,8 @@ impl ExprState {
         at: u32,
     ) -> Result<(), Fault>
         requires { length self.old.frames < 64 }
-        ensures { Leads result self.new (spec.bracket_goes_on at bracket value saved self.old.frames self.old) }
+        ensures { Leads result self.new
+            (spec.bracket_goes_on at bracket value saved self.old.frames self.old) }
     {
         match bracket {
             Bracket::Plain => Err(misfit(at)),

@@ -10,7 +10,8 @@ ghost use Rattle.tk_item.specs.Frame.{round_boxes, IsLeastRound};
 pub fn frames_are_least()
     ensures least { (frame : Option Frame) (boxes : List Frame)
         → IfSome (round_boxes frame boxes) (IsLeastRound (option_to_list frame ++ boxes)) }
-    ensures only { (boxes : List Frame) (f g : Frame) → IsLeastRound boxes f → IsLeastRound boxes g → f ≡ g }
+    ensures only { (boxes : List Frame) (f g : Frame)
+        → IsLeastRound boxes f → IsLeastRound boxes g → f ≡ g }
     ensures none { (frame : Option Frame) (boxes : List Frame) → IsNone (round_boxes frame boxes)
         ↔ ((frame ≡ None) × (boxes ≡ [])) }
 {}

@@ -1,7 +1,6 @@
 -- The handlers of keys, by the last parts of their paths (the PGF manual, section "Key Management", "Key Handlers").
 use Rattle.std.specs.Prelude.{ℕ, List, [], ◌∷◌, Option, codes}
-use Rattle.std.specs.Map.{lookup}
-use Rattle.std.specs.Str.{bytes_eq}
+use Rattle.tk_characters.specs.Words.{word_meaning}
 use Rattle.tk_keytext.specs.declared.Handler.{Handler}
 use Rattle.tk_keytext.specs.declared.Handler.TheVariants.{Cd, Code, CodeTwo, Style, StyleTwo, AppendStyle, PrefixStyle}
 use Rattle.tk_keytext.specs.declared.Handler.TheVariants.{Default, ValueRequired, ValueForbidden, Initial, IsChoice}
@@ -28,4 +27,4 @@ handlers =
 
 -- the handler of that name, if there is one
 abbrev pub handler_of : List ℕ → Option Handler
-handler_of name = lookup (bytes_eq name) handlers
+handler_of = word_meaning handlers

@@ -77,10 +77,6 @@ pub before_before : (xs ys : List ℤ) (answer : Answer (List ℤ)) → before x
 before_before xs ys (Ok zs) = ap (λ (ws : List ℤ). (let answer : Answer (List ℤ) = Ok ws in answer)) (sym (append_assoc xs ys zs))
 before_before xs ys (Err f) = refl
 
-pub before_nothing : (answer : Answer (List ℤ)) → answer ≡ before [] answer
-before_nothing (Ok zs) = refl
-before_nothing (Err f) = refl
-
 module _ (at : ℕ) (ev : Evaluation) (font : FontUnits) where
   -- the lengths of the dashes that are found
   abbrev pub lengths_of : Option (List Dash) → Answer (List ℤ)

@@ -12,7 +12,6 @@ use Rattle.tk_affine.proofs.Folds.{go_on}
 use Rattle.tk_expr.specs.declared.FontUnits.{FontUnits}
 use Rattle.tk_expr.specs.Evaluates.{Evaluation}
 use Rattle.tk_look.specs.declared.GraphicsState.{GraphicsState}
-use Rattle.tk_look.specs.declared.Look.{Look}
 use Rattle.tk_look.specs.Applied.{Applied, native_applied}
 use Rattle.tk_affine.specs.Faults.{answer_at}
 use Rattle.tk_look.specs.Graphics.{IsMadeBy, graphics_by, graphics_behind}

@@ -3,10 +3,10 @@
 use Rattle.std.specs.Prelude.{ℕ, zero, suc, ◌-◌, ◌==◌, Bool, true, false, if◌then◌else◌, int_le, nat_le, unsigned_abs, List, [], ◌∷◌, length, take}
 use Rattle.std.specs.Prelude.{drop, unwrap_or, Option, Some, None, option_map, Ok, Err, IfErr, IfSome, Result, ℤ, pos, codes}
 use Rattle.std.specs.List.{AllByRecursion, prefix_len, suffix_len}
-use Rattle.std.specs.Map.{lookup}
 use Rattle.std.specs.Str.{bytes_eq}
 use Rattle.tk_characters.specs.Characters.{comma, colon, left_parenthesis, right_parenthesis}
 use Rattle.tk_characters.specs.Options.{◌and_then◌}
+use Rattle.tk_characters.specs.Words.{word_meaning}
 use Rattle.tk_item.specs.declared.Rgb.{Rgb}
 use Rattle.tk_token.specs.declared.Code.{Code}
 use Rattle.tk_token.specs.declared.Code.TheVariants as codes_of
@@ -198,7 +198,7 @@ module _ (P : ℕ → Type 0) where
     shaped_fine (Some shape) look = tt
 
     coloured_fine : (o : Option Rgb) (name : List ℕ) (look : Look) → Fine (coloured_or_shaped at o name look)
-    coloured_fine None name look = shaped_fine (lookup (bytes_eq name) shapes) look
+    coloured_fine None name look = shaped_fine (word_meaning shapes name) look
     coloured_fine (Some c) name look = tt
 
     own_name_fine : (name : List ℕ) (value : Option (List Tok)) (look : Look) → Fine (by_own_name at name value look)

@@ -1,9 +1,9 @@
 -- What the native keys make of their values, and of a look.
 use Rattle.std.specs.Prelude.{ℕ, Bool, true, false, nat_le, unsigned_abs, if◌then◌else◌, List, [], ◌∷◌, Option, Some}
 use Rattle.std.specs.Prelude.{None, Ok, ℤ, pos, neg_ℤ, codes}
-use Rattle.std.specs.Map.{lookup}
 use Rattle.std.specs.Str.{bytes_eq}
 use Rattle.tk_characters.specs.Characters.{comma, colon}
+use Rattle.tk_characters.specs.Words.{word_meaning}
 use Rattle.tk_num.specs.Number.{product}
 use Rattle.tk_item.specs.declared.Rgb.{Rgb}
 use Rattle.tk_item.specs.declared.Rule.TheVariants.{NonZero, EvenOdd}
@@ -199,7 +199,7 @@ module _ (at : ℕ) where
 
   abbrev pub coloured_or_shaped : Option Rgb → List ℕ → Look → Answer Look
   coloured_or_shaped (Some c) name look = Ok (coloured Color c look)
-  coloured_or_shaped None name look = shaped_or_unknown (lookup (bytes_eq name) shapes) look
+  coloured_or_shaped None name look = shaped_or_unknown (word_meaning shapes name) look
 
   abbrev pub by_own_name : List ℕ → Option (List Tok) → Look → Answer Look
   by_own_name name None look = coloured_or_shaped (colour_of name) name look

@@ -2,10 +2,9 @@
 use Rattle.std.specs.Prelude.{ℕ, ◌+◌, ◌-◌, ◌*◌, ◌/◌, ◌&&◌, ◌==◌, nat_le, if◌then◌else◌, List, [], ◌∷◌, Option, Some}
 use Rattle.std.specs.Prelude.{None, codes}
 use Rattle.std.specs.List.{slice_split}
-use Rattle.std.specs.Map.{lookup}
-use Rattle.std.specs.Str.{bytes_eq}
 use Rattle.tk_characters.specs.Characters.{exclamation_mark}
 use Rattle.tk_characters.specs.Options.{◌and_then◌}
+use Rattle.tk_characters.specs.Words.{word_meaning}
 use Rattle.tk_num.specs.Number.{is_decimal, decimal_value}
 use Rattle.tk_item.specs.declared.Rgb.{Rgb}
 
@@ -45,7 +44,7 @@ colours =
 
 -- the colour of that name
 abbrev pub colour_named : List ℕ → Option Rgb
-colour_named name = lookup (bytes_eq name) colours
+colour_named = word_meaning colours
 
 -- ---- mixing
 

@@ -3,7 +3,6 @@ use Rattle.std.specs.Prelude.{◌≡◌, ℕ, List, ◌++◌, Option, Ok}
 use Rattle.tk_token.specs.declared.Tok.{Tok}
 use Rattle.tk_token.specs.Answers.{Answer, ◌>>=◌}
 use Rattle.tk_native.specs.declared.Native.{Native}
-use Rattle.tk_affine.specs.declared.Matrix.{Matrix}
 use Rattle.tk_affine.specs.declared.Step.{Step}
 use Rattle.tk_affine.specs.Faults.{answer_at}
 use Rattle.tk_affine.specs.Steps.{unmoved, with_steps, matrix_of}

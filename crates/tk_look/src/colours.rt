@@ -1,8 +1,7 @@
 //! Colours by their texts.
 
 ghost use Rattle.std.specs.Prelude.{◌≡◌, ◌≤◌, ◌<◌, ◌∷◌, length, map, option_copied, IfSome, MatchOption, None};
-ghost use Rattle.std.specs.Map.{lookup};
-ghost use Rattle.std.specs.Str.{bytes_eq};
+ghost use Rattle.tk_characters.specs.Words.{word_meaning};
 ghost use Rattle.tk_look.specs.Colours as spec;
 ghost use Rattle.tk_look.specs.Pieces.{pieces_behind};
 
@@ -34,8 +33,8 @@ static COLOURS: [(&str, u8, u8, u8); 19] = [
 
 /// The colour that has that name in a table.
 fn colour_among(table: &[(&str, u8, u8, u8)], name: &str) -> Option<Rgb>
-    ensures { result ≡ lookup (bytes_eq name.now)
-        (map (λ row. (row.0.now, spec.rgb row.1 row.2 row.3)) table.now) }
+    ensures { result
+        ≡ word_meaning (map (λ row. (row.0.now, spec.rgb row.1 row.2 row.3)) table.now) name.now }
 {
     for (text, r, g, b) in table {
         if name == *text {
@@ -95,7 +94,8 @@ fn mixed(percent: u64, c: Rgb, d: Rgb) -> Rgb
 
 /// What stands before the first `!`, and what stands behind it if there is one.
 fn first_piece(text: &str) -> (&str, Option<&str>)
-    ensures pieces { spec.pieces_between text.now ≡ result.0.now ∷ pieces_behind (option_copied result.1) }
+    ensures pieces { spec.pieces_between text.now
+        ≡ result.0.now ∷ pieces_behind (option_copied result.1) }
     ensures shorter { IfSome result.1 (λ rest. length rest.now < length text.now) }
 {
     match text.split_once('!') {
@@ -110,7 +110,8 @@ fn mix_first<'a>(so_far: Rgb, pieces: &'a str) -> Option<(Rgb, Option<&'a str>)>
         (spec.mixed_with so_far (spec.pieces_between pieces.now) ≡ None)
         (λ next. spec.mixed_with so_far (spec.pieces_between pieces.now)
         ≡ spec.mixed_with next.0 (pieces_behind (option_copied next.1))) }
-    ensures shorter { IfSome result (λ next. IfSome next.1 (λ rest. length rest.now < length pieces.now)) }
+    ensures shorter { IfSome result
+        (λ next. IfSome next.1 (λ rest. length rest.now < length pieces.now)) }
 {
     let (share, behind) = first_piece(pieces);
     let percent = percentage(share)?;

@@ -34,7 +34,8 @@ fn up_to_word(list: &[Tok]) -> (&[Tok], &[Tok])
 
 /// The text behind an `on` in front, and what stands behind that text.
 fn behind_on(list: &[Tok]) -> Option<(&[Tok], &[Tok])>
-    ensures { option_map (λ found. cut found.0.now found.1.now) result ≡ spec.behind_word (codes "on") list.now }
+    ensures { option_map (λ found. cut found.0.now found.1.now) result
+        ≡ spec.behind_word (codes "on") list.now }
 {
     if !begins_pair(list, 'o', 'n') {
         return None;
@@ -44,7 +45,8 @@ fn behind_on(list: &[Tok]) -> Option<(&[Tok], &[Tok])>
 
 /// The same behind an `off`.
 fn behind_off(list: &[Tok]) -> Option<(&[Tok], &[Tok])>
-    ensures { option_map (λ found. cut found.0.now found.1.now) result ≡ spec.behind_word (codes "off") list.now }
+    ensures { option_map (λ found. cut found.0.now found.1.now) result
+        ≡ spec.behind_word (codes "off") list.now }
 {
     if !begins_three(list, 'o', 'f', 'f') {
         return None;

@@ -78,7 +78,8 @@ impl Look {
         value: Option<&[Tok]>,
         at: u32,
     ) -> Result<(), Refusal>
-        ensures { Gives (λ _. self.new) result (spec.paint at key (option_copied value.entry) self.old) }
+        ensures { Gives (λ _. self.new) result
+            (spec.paint at key (option_copied value.entry) self.old) }
     {
         let Some(list) = value else {
             self.switch(key, true);
@@ -198,7 +199,8 @@ impl Look {
         ensures { MatchResult result
             (λ step. spec.beside at evaluated font side (option_copied value.entry) self.old
             ≡ Ok (spec.stepping self.new (step ∷ [])))
-            (λ fault. spec.beside at evaluated font side (option_copied value.entry) self.old ≡ Err fault) }
+            (λ fault. spec.beside at evaluated font side (option_copied value.entry) self.old
+            ≡ Err fault) }
     {
         let length = match value {
             Some(_) => number_value(value, font, at)?,
@@ -210,7 +212,8 @@ impl Look {
 
     /// `name`: an empty one is none.
     fn set_name(&mut self, alloc: Global, value: Option<&[Tok]>, at: u32) -> Result<(), Refusal>
-        ensures { Gives (λ _. self.new) result (spec.with_name at (option_copied value.entry) self.old) }
+        ensures { Gives (λ _. self.new) result
+            (spec.with_name at (option_copied value.entry) self.old) }
     {
         let Some(list) = value else {
             return Err(Refusal::new(Code::ValueRequired, at));
@@ -228,7 +231,8 @@ impl Look {
 
     /// A key that isn't known: its own name is a colour or a shape, and it has no value.
     fn set_by_own_name(&mut self, name: &str, value: Option<&[Tok]>, at: u32) -> Result<(), Refusal>
-        ensures { Gives (λ _. self.new) result (spec.by_own_name at name.now (option_copied value.entry) self.old) }
+        ensures { Gives (λ _. self.new) result
+            (spec.by_own_name at name.now (option_copied value.entry) self.old) }
     {
         if value.is_some() {
             return Err(Refusal::new(Code::UnknownKey, at));
@@ -291,7 +295,8 @@ impl Look {
         ensures { MatchResult result
             (λ steps. spec.transformed at evaluated font key (option_copied value.entry) self.old
             ≡ Ok (spec.stepping self.new steps.items))
-            (λ fault. spec.transformed at evaluated font key (option_copied value.entry) self.old ≡ Err fault) }
+            (λ fault. spec.transformed at evaluated font key (option_copied value.entry) self.old
+            ≡ Err fault) }
     {
         match (key, value) {
             (TransformKey::Step(key), _) => {
@@ -318,7 +323,8 @@ impl Look {
         at: u32,
     ) -> Result<KeySteps, Refusal>
         ensures { Gives (λ steps. spec.stepping self.new steps.items) result
-            (spec.native_applied at evaluated font key name.now (option_copied value.entry) self.old) }
+            (spec.native_applied at evaluated font key name.now (option_copied value.entry)
+            self.old) }
     {
         match key {
             Native::Look(key) => {
@@ -349,7 +355,8 @@ pub fn apply(
     font: FontUnits,
     at: u32,
 ) -> Result<ArrayVec<Step, 3>, Refusal>
-    ensures { (ev : Evaluation) → IsEvaluation ev → Gives (λ steps. spec.stepping look.new steps.items) result
+    ensures { (ev : Evaluation) → IsEvaluation ev
+        → Gives (λ steps. spec.stepping look.new steps.items) result
         (spec.native_applied at ev font key name.now (option_copied value.entry) look.old) }
 {
     look.apply(alloc, key, name, value, font, at)

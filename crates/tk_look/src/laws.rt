@@ -15,12 +15,15 @@ ghost use Rattle.tk_look.specs.Graphics.{IsMadeBy, initial_graphics, graphics_be
 /// a level that opens; and where a key puts steps behind them, it is what the whole list makes, or has its fault.
 pub fn a_matrix_is_that_of_its_steps()
     ensures begins { (font : TheFontUnits) → IsMadeBy [] (initial_graphics font) }
-    ensures below { (steps : List AStep) (g : AState) → IsMadeBy steps g → IsMadeBy steps (graphics_below g) }
+    ensures below { (steps : List AStep) (g : AState) → IsMadeBy steps g
+        → IsMadeBy steps (graphics_below g) }
     ensures behind { (steps : List AStep) (g : AState) → IsMadeBy steps g
-        → (at : ℕ) (ev : Evaluation) (font : TheFontUnits) (key : AKey) (name : List ℕ) (value : Option (List AToken))
-        → graphics_by at ev font key name value g ≡ graphics_behind at ev font key name value steps g.look }
+        → (at : ℕ) (ev : Evaluation) (font : TheFontUnits) (key : AKey) (name : List ℕ)
+        → (value : Option (List AToken)) → graphics_by at ev font key name value g
+        ≡ graphics_behind at ev font key name value steps g.look }
     ensures longer { (steps : List AStep) (g : AState) → IsMadeBy steps g
-        → (at : ℕ) (ev : Evaluation) (font : TheFontUnits) (key : AKey) (name : List ℕ) (value : Option (List AToken))
+        → (at : ℕ) (ev : Evaluation) (font : TheFontUnits) (key : AKey) (name : List ℕ)
+        → (value : Option (List AToken))
         → IfOk (native_applied at ev font key name value g.look) (λ new.
         IfOk (graphics_by at ev font key name value g) (IsMadeBy (steps ++ new.steps))) }
 {}

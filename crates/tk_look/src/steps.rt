@@ -129,7 +129,8 @@ pub(crate) fn turn_around(
 /// The tokens before the first comma outside braces, and those behind it; `Domain` where there is none.
 fn before_comma(list: &[Tok], at: u32) -> Result<(&[Tok], &[Tok]), Fault>
     ensures { MatchResult result
-        (λ found. or_fault (groups.before_char comma list.now) Domain at ≡ Ok (cut found.0.now found.1.now))
+        (λ found. or_fault (groups.before_char comma list.now) Domain at
+        ≡ Ok (cut found.0.now found.1.now))
         (λ fault. or_fault (groups.before_char comma list.now) Domain at ≡ Err fault) }
 {
     match before_char(list, ',') {

@@ -78,7 +78,8 @@ pub(crate) fn position_value(
 
 /// The text of a value that has to be there; a fault where it isn't of characters and Spaces alone.
 fn text_value(alloc: Global, value: Option<&[Tok]>, code: Code, at: u32) -> Result<String, Refusal>
-    ensures { Gives (λ text. string_bytes text) result (text_there code at (option_copied value.entry)) }
+    ensures { Gives (λ text. string_bytes text) result
+        (text_there code at (option_copied value.entry)) }
 {
     let Some(list) = value else {
         return Err(Refusal::new(Code::ValueRequired, at));
@@ -107,7 +108,8 @@ pub(crate) fn join_value(alloc: Global, value: Option<&[Tok]>, at: u32) -> Resul
 
 /// The shape of a node.
 pub(crate) fn shape_value(alloc: Global, value: Option<&[Tok]>, at: u32) -> Result<Shape, Refusal>
-    ensures { Gives (λ shape. shape) result (spec.word_value at shapes (option_copied value.entry)) }
+    ensures { Gives (λ shape. shape) result
+        (spec.word_value at shapes (option_copied value.entry)) }
 {
     let word = text_value(alloc, value, Code::UnknownChoice, at)?;
     shape_named(&word).ok_or(Refusal::new(Code::UnknownChoice, at))
@@ -183,7 +185,8 @@ pub(crate) fn anchor_value(
     font: FontUnits,
     at: u32,
 ) -> Result<Anchor, Refusal>
-    ensures { Gives (λ anchor. anchor) result (spec.anchor_value at evaluated font (option_copied value.entry)) }
+    ensures { Gives (λ anchor. anchor) result
+        (spec.anchor_value at evaluated font (option_copied value.entry)) }
 {
     match value {
         Some(list) => anchor_by_machine(alloc, list, font, at),

@@ -1,8 +1,7 @@
 //! The words that keys take as values.
 
 ghost use Rattle.std.specs.Prelude.{◌≡◌};
-ghost use Rattle.std.specs.Map.{lookup};
-ghost use Rattle.std.specs.Str.{bytes_eq};
+ghost use Rattle.tk_characters.specs.Words.{word_meaning};
 ghost use Rattle.tk_look.specs.Words.{caps, joins, shapes, anchors};
 
 use tk_affine::{Anchor, Shape};
@@ -10,7 +9,7 @@ use tk_item::{Cap, Join};
 
 /// The end of open lines with that name.
 pub(crate) fn cap_named(word: &str) -> Option<Cap>
-    ensures { result ≡ lookup (bytes_eq word.now) caps }
+    ensures { result ≡ word_meaning caps word.now }
 {
     match word {
         "butt" => Some(Cap::Butt),
@@ -22,7 +21,7 @@ pub(crate) fn cap_named(word: &str) -> Option<Cap>
 
 /// The corner of lines with that name.
 pub(crate) fn join_named(word: &str) -> Option<Join>
-    ensures { result ≡ lookup (bytes_eq word.now) joins }
+    ensures { result ≡ word_meaning joins word.now }
 {
     match word {
         "miter" => Some(Join::Miter),
@@ -34,7 +33,7 @@ pub(crate) fn join_named(word: &str) -> Option<Join>
 
 /// The shape of nodes with that name.
 pub(crate) fn shape_named(word: &str) -> Option<Shape>
-    ensures { result ≡ lookup (bytes_eq word.now) shapes }
+    ensures { result ≡ word_meaning shapes word.now }
 {
     match word {
         "rectangle" => Some(Shape::Rectangle),
@@ -46,7 +45,7 @@ pub(crate) fn shape_named(word: &str) -> Option<Shape>
 
 /// The anchor of nodes with that name.
 pub(crate) fn anchor_named(word: &str) -> Option<Anchor>
-    ensures { result ≡ lookup (bytes_eq word.now) anchors }
+    ensures { result ≡ word_meaning anchors word.now }
 {
     match word {
         "center" => Some(Anchor::Center),

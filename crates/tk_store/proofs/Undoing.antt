@@ -7,7 +7,7 @@ use Rattle.std.specs.FinMap as map
 use Rattle.tk_store.specs.declared.Entry.{Entry}
 use Rattle.tk_store.specs.declared.Macro.{Macro}
 use Rattle.tk_store.specs.declared.tables.Saved.{Saved}
-use Rattle.tk_store.specs.declared.tables.Saved.TheVariants.{Macro as Replaced, NoMacro, Key as ReplacedKey, NoKey}
+use Rattle.tk_store.specs.declared.tables.Saved.TheVariants.{Macro as Replaced, NoMacro, NoKey}
 use Rattle.tk_store.specs.Levels.{Level, Levels, opened, CountsOne, SetsMacro, SetsKey}
 use Rattle.tk_store.specs.Undo.{Tables, macros_in, keys_in, before, before_all, made_since, made_until, settings_at, level_of, outer_of, levels_of}
 use Rattle.tk_store.specs.Undo.{AreMarks}
@@ -218,15 +218,7 @@ module _ (old : Tables) (s : Saved) where
       ap (λ (l : List (ℕ × Macro)). take (length l - 1) l) are ∙ added_back old.macros e in
       ap (λ (x : Saved). before x (record old { macros = macros })) is ∙ (λ i. record old { macros = back i })
 
-  -- an entry at its place
-  pub undoes_key : (keys : List (List ℕ × Entry)) (place : ℕ) (entry : Entry)
-      → s ≡ ReplacedKey place entry
-      → set_value_at keys place entry ≡ old.keys
-      → before s (record old { keys = keys }) ≡ old
-  undoes_key keys place entry is back =
-      ap (λ (x : Saved). before x (record old { keys = keys })) is ∙ (λ i. record old { keys = back i })
-
-  -- or nothing, where the key is new
+  -- where the key is new, its entry is taken away
   pub undoes_new_key : (keys : List (List ℕ × Entry)) (e : List ℕ × Entry)
       → s ≡ NoKey
       → keys ≡ old.keys ++ e ∷ []

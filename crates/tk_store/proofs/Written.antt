@@ -17,11 +17,6 @@ use Rattle.tk_store.specs.Kept.{Kept, kept, first_kept}
 abbrev pub onto : List Tok → Answer (List Tok) → Answer (List Tok)
 onto done answer = answer >>= λ more. Ok (done ++ more)
 
--- no tokens stand before it
-pub onto_nothing : (answer : Answer (List Tok)) → answer ≡ onto [] answer
-onto_nothing (Ok more) = refl
-onto_nothing (Err e) = refl
-
 -- one more token stands before it
 pub onto_more : (done : List Tok) (t : Tok) (answer : Answer (List Tok)) → onto done (answer >>= λ more. Ok (t ∷ more)) ≡ onto (done ++ t ∷ []) answer
 onto_more done t (Ok more) = ap (λ (ts : List Tok). (let a : Answer (List Tok) = Ok ts in a)) (sym (append_assoc done (t ∷ []) more))

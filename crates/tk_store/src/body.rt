@@ -111,7 +111,8 @@ pub fn digit_of(kind: Kind) -> Option<u8>
 
 /// The token that a body has for the first one that is written, and the tokens behind those that it stands for.
 fn first_kept(args: u8, first: Tok, tail: &[Tok]) -> Result<(Tok, &[Tok]), Refusal>
-    ensures gives { Gives (λ found. kept found.0 found.1.now) result (first_kept args first tail.now) }
+    ensures gives { Gives (λ found. kept found.0 found.1.now) result
+        (first_kept args first tail.now) }
     ensures places { IfOk result (λ found. IsArgOf args found.0.kind) }
     ensures shorter { IfOk result (λ found. length found.1.now ≤ length tail.now) }
 {

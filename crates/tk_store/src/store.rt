@@ -126,7 +126,8 @@ impl Store {
 /// Keeps what a setting replaced, where any levels are open. There is room for it.
 fn keep_replaced(saved: &mut Vec<Saved>, levels: usize, replaced: Saved)
     requires { vec_len saved.old < vec_capacity saved.old }
-    ensures { saved.new.items ≡ (if nat_eq levels 0 then saved.old.items else saved.old.items ++ replaced ∷ []) }
+    ensures { saved.new.items
+        ≡ (if nat_eq levels 0 then saved.old.items else saved.old.items ++ replaced ∷ []) }
 {
     if levels > 0 {
         saved.push_reserved(replaced);
@@ -138,7 +139,8 @@ fn keep_replaced(saved: &mut Vec<Saved>, levels: usize, replaced: Saved)
 /// Undoes settings, the newest first, until no more than so many are left.
 fn undo<L: Ledger>(tables: &mut Tables, saved: &mut Vec<Saved>, mark: usize, steps: &mut Steps<L>)
     requires { mark ≤ length (reverse saved.old.items) }
-    ensures tables { tables.new ≡ before_all (made_since mark (reverse saved.old.items)) tables.old }
+    ensures tables { tables.new
+        ≡ before_all (made_since mark (reverse saved.old.items)) tables.old }
     ensures saved { reverse saved.new.items ≡ made_until mark (reverse saved.old.items) }
     ensures cost { steps.new + mark ≡ steps.old + length (reverse saved.old.items) }
 {

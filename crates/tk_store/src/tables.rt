@@ -71,7 +71,8 @@ impl Tables {
 
     /// Gives a word a macro. On want of memory all stays as it was.
     pub(crate) fn set_macro(&mut self, name: u32, value: Macro) -> Result<Saved, AllocError>
-        ensures macros { OnOk result (macros_in self.new ≡ map.insert (macros_in self.old) name value) }
+        ensures macros { OnOk result
+            (macros_in self.new ≡ map.insert (macros_in self.old) name value) }
         ensures keys { OnOk result (keys_in self.new ≡ keys_in self.old) }
         ensures undo { IfOk result (λ saved. before saved self.new ≡ self.old) }
         ensures err { OnErr result (self.new ≡ self.old) }
@@ -85,7 +86,8 @@ impl Tables {
 
     /// Gives a key an entry. On want of memory all stays as it was. A key that is there takes no memory.
     pub(crate) fn set_key(&mut self, path: &str, entry: Entry) -> Result<Saved, AllocError>
-        ensures keys { OnOk result (keys_in self.new ≡ map.insert (keys_in self.old) path.now entry) }
+        ensures keys { OnOk result
+            (keys_in self.new ≡ map.insert (keys_in self.old) path.now entry) }
         ensures macros { OnOk result (macros_in self.new ≡ macros_in self.old) }
         ensures undo { IfOk result (λ saved. before saved self.new ≡ self.old) }
         ensures err { OnErr result (self.new ≡ self.old) }
@@ -127,7 +129,8 @@ fn add_key(
     entry: Entry,
 ) -> Result<Saved, AllocError>
     requires { lookup (bytes_eq path.now) (by_bytes keys.old.entries) ≡ None }
-    ensures keys { OnOk result (by_bytes keys.new.entries ≡ by_bytes keys.old.entries ++ (path.now, entry) ∷ []) }
+    ensures keys { OnOk result (by_bytes keys.new.entries
+        ≡ by_bytes keys.old.entries ++ (path.now, entry) ∷ []) }
     ensures saved { IfOk result (λ saved. saved ≡ Saved.NoKey) }
     ensures err { OnErr result (keys.new.entries ≡ keys.old.entries) }
 {

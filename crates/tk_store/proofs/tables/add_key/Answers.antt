@@ -1,4 +1,4 @@
-use Rattle.std.proofs.Common.{◌≡◌, Some, None, ap, sym, ◌∙◌}
+use Rattle.std.proofs.Common.{ap, sym, ◌∙◌}
 use Rattle.std.specs.String.{string_eq}
 use Rattle.std.specs.Map.{lookup}
 use Rattle.tk_store.specs.Paths.{by_bytes}
