@@ -12,6 +12,7 @@ pub mod Listed
 pub mod Loop
 pub mod Once
 pub mod Outside
+pub mod PlainBytes
 pub mod Refused
 pub mod Runs
 pub mod Spaces

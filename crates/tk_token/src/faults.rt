@@ -1,8 +1,10 @@
 //! The faults of a source.
 
 ghost use Rattle.std.specs.Prelude.{◌≡◌, ◌<◌, ◌≤◌, ℕ, List, length, map, reverse, chars, None, Some, MatchResult, IfSome};
+ghost use Rattle.std.specs.List.{list_all};
 ghost use Rattle.std.specs.Result.{result_map_both};
 ghost use Rattle.tk_token.specs.Faults.{is_refused, first_place, text_fault, open_after, balanced};
+ghost use Rattle.tk_token.specs.Pieces.{is_plain_byte};
 ghost use Rattle.tk_token.specs.Token.{token_of, sign_of};
 
 use crate::lexer::split_first;
@@ -37,6 +39,9 @@ fn first_refused(text: &str) -> Option<usize>
     ensures value { result ≡ first_place is_refused (chars text.now) }
     ensures within { IfSome result (λ at. at < length text.now) }
 {
+    if is_plain(text.as_bytes()) {
+        return None;
+    }
     let mut rest = text;
     while let Some((first, tail)) = split_first(rest) {
         if is_refused(first) {
@@ -47,13 +52,24 @@ fn first_refused(text: &str) -> Option<usize>
     None
 }
 
+/// Whether no byte stands in a character that is refused. Nearly every source is so.
+fn is_plain(bytes: &[u8]) -> bool
+    ensures { result ≡ list_all is_plain_byte bytes.now }
+{
+    bytes.iter().all(|byte| is_plain_byte(*byte))
+}
+
+/// Whether a byte stands in no character that is refused: it is no control character but tab, LF or CR, and doesn't
+/// begin a character from U+F000 to U+FFFF.
+fn is_plain_byte(byte: u8) -> bool
+    ensures { result ≡ is_plain_byte byte }
+{
+    (b' ' <= byte && byte != 0xef) || matches!(byte, b'\t' | b'\n' | b'\r')
+}
+
 fn is_refused(character: char) -> bool
     ensures { result ≡ is_refused character }
 {
-    // Nearly every character is one of these.
-    if ' ' <= character && character <= '\u{fffd}' {
-        return false;
-    }
     matches!(character, '\0'..='\u{8}' | '\u{b}' | '\u{c}' | '\u{e}'..='\u{1f}' | '\u{fffe}' | '\u{ffff}')
 }
 

@@ -1,7 +1,10 @@
 use Rattle.std.proofs.Common.{ℕ, List, [], ◌∷◌, ◌++◌, sym, ap, ◌∙◌, arith, append_assoc}
 use Rattle.std.specs.Str.{chars}
+use Rattle.std.specs.List.{list_all}
 use Rattle.tk_token.specs.Faults.{is_refused}
+use Rattle.tk_token.specs.Pieces.{is_plain_byte}
 use Rattle.tk_token.proofs.Refused.{first_found, none_found, none_more}
+use Rattle.tk_token.proofs.PlainBytes.{plain_text}
 use Rattle.tk_token.proofs.faults.first_refused.Goals as goal
 
 pub returns-then-is_refused-clause-value : goal.returns-then-is_refused-clause-value
@@ -29,3 +32,7 @@ pub returns-clause-value : goal.returns-clause-value
 returns-clause-value c =
     let (front, is, none) = c.loop-first.invariant.told in
     none_found is_refused c.args.text.now front (is ∙ ap (λ (r : List ℕ). front ++ r) c.in_default.ensures.value) none
+
+pub returns-then-is_plain-clause-value : goal.returns-then-is_plain-clause-value
+returns-then-is_plain-clause-value c =
+    plain_text c.args.text.now c.utf8.text (ap (list_all is_plain_byte) (sym c.as_bytes.ensures.value) ∙ sym c.if-is_plain.ensures)
