@@ -10,7 +10,10 @@ pub mod Meshing
 pub mod OperationMoves
 pub mod PathMoves
 pub mod Places
+pub mod StyleParts
 pub mod TargetMoves
 pub mod Tracing
 pub mod Unbounded
+pub mod Undone
 pub mod WordMoves
+pub mod WorkLeft
