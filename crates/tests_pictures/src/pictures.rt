@@ -1,10 +1,15 @@
 //! What no clause says: that a picture is drawn with ample memory. Lines of pictures with a budget, and what they cost
 //! and draw or are refused for, worked out by hand.
 
+ghost use Rattle.std.specs.Prelude.{◌≡◌, ◌<◌, ◌≤◌, length};
+
 use std::alloc::{AllocError, Global};
+use std::marker::Brand;
+use std::sync::ledger::{Blank, Ledger};
 use std::test::Fail;
 use tk_item::{Frame, Item, Seg};
 use tk_picture::*;
+use tk_store::Steps;
 use tk_token::{Code, Fault, Refusal};
 
 /// A line of a picture, the budget, and the units that it costs with the paths that it draws, or its fault with the
@@ -245,7 +250,23 @@ fn outcome(alloc: Global, source: &str, budget: u64) -> Result<String, Fail> {
     if bytes.len() > 1_000 || budget > 1_000 {
         return Err("too much".into());
     }
-    match compile(alloc, bytes, Asked { budget }) {
+    counted::<Brand>(alloc, bytes, budget, Blank::new(1))
+}
+
+/// The same, with a count of the steps of its own.
+fn counted<L: Ledger>(
+    alloc: Global,
+    bytes: &[u8],
+    budget: u64,
+    blank: Blank,
+) -> Result<String, Fail>
+    requires short { length bytes.now ≤ 1000 }
+    requires few { budget ≤ 1000 }
+    requires name { blank.name ≡ L.name }
+    requires parts { blank.parts ≡ L.parts }
+    requires some { 0 < L.parts }
+{
+    match compile::<L>(alloc, bytes, Asked { budget }, &mut Steps::new(blank)) {
         Ok(compiled) => Ok(shown(alloc, &compiled)?),
         Err(Refusal::Fault(fault)) => Ok(fault_shown(alloc, fault)?),
         Err(Refusal::OutOfMemory) => Err("no memory".into()),

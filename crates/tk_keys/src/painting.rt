@@ -8,17 +8,16 @@ ghost use Rattle.tk_expr.specs.Evaluates.{Evaluation, IsEvaluation};
 ghost use Rattle.tk_keys.specs.Painting.{paint_name, unchanged, PaintsAlone, painting};
 ghost use Rattle.tk_keys.specs.Environment.{tikz_path};
 ghost use Rattle.tk_keys.specs.Settings.{A_key_list, runs};
-ghost use Rattle.tk_keys.specs.State.{env_of, given_of, situation_of, ending_of, Keeps, Makes};
+ghost use Rattle.tk_keys.specs.State.{env_of, given_of, situation_of, ending_of, most_undone, Keeps, Makes};
 ghost use Rattle.tk_keytext.specs.Parts.{parts_of};
 
 use crate::runs::MOST_LISTS;
 use crate::{Dir, State};
-use std::marker::Brand;
-use std::sync::ledger::{Blank, Ledger};
+use std::sync::ledger::Ledger;
 use tk_native::PaintKey::{Draw, Fill};
 use tk_native::{LookKey, Native, PaintKey};
 use tk_store::{Entry, Need, Run, Steps};
-use tk_token::{Refusal, Tok, tokens_of};
+use tk_token::{Refusal, tokens_of};
 
 impl State {
     /// Runs the key list that is written so, whose tokens all stand at `at`, as its command does, with the default path
@@ -26,38 +25,30 @@ impl State {
     ///
     /// It runs as `run_list` runs those tokens, with the same faults. `draw`, `fill` and `draw,fill` take no memory
     /// while they are the keys that are there from the beginning.
-    pub fn run_written(&mut self, text: &str, at: u32) -> Result<Dir, Refusal>
+    pub fn run_written<L: Ledger>(
+        &mut self,
+        text: &str,
+        at: u32,
+        steps: &mut Steps<L>,
+    ) -> Result<Dir, Refusal>
         ensures gives { (ev : Evaluation) → IsEvaluation ev → Gives (λ last. ending_of self.new last) result
             (runs (given_of ev self.old)
             (A_key_list (situation_of self.old) (codes "/tikz") (texts.tokens_of at text.now) at)) }
         ensures kept { OnOk result (Keeps self.old self.new) }
+        ensures used { OnOk result (self.old.units ≤ self.new.units) }
         ensures made { OnOk result (Makes (3 * (length (parts_of (texts.tokens_of at text.now))
             + (self.new.units - self.old.units))) self.old self.new) }
+        ensures low { steps.old ≤ steps.new }
+        ensures high { steps.new
+            ≤ most_undone steps.old self.old (length (parts_of (texts.tokens_of at text.now))) }
+        ensures most { OnOk result (most_undone steps.new self.new 0
+            ≤ most_undone steps.old self.old (length (parts_of (texts.tokens_of at text.now)))) }
     {
         if self.lists < MOST_LISTS && self.run_unchanged(text) {
             return Ok(Dir::tikz());
         }
         let list = tokens_of(self.alloc, at, text)?;
-        self.run_list_counting::<Brand>(&list, at, Blank::new(1))
-    }
-
-    /// Runs a key list with the default path /tikz, and counts what is undone in a ledger of its own.
-    fn run_list_counting<L: Ledger>(
-        &mut self,
-        list: &[Tok],
-        at: u32,
-        blank: Blank,
-    ) -> Result<Dir, Refusal>
-        requires name { blank.name ≡ L.name }
-        requires parts { blank.parts ≡ L.parts }
-        requires some { 0 < L.parts }
-        ensures gives { (ev : Evaluation) → IsEvaluation ev → Gives (λ last. ending_of self.new last) result
-            (runs (given_of ev self.old) (A_key_list (situation_of self.old) (codes "/tikz") list.now at)) }
-        ensures kept { OnOk result (Keeps self.old self.new) }
-        ensures made { OnOk result (Makes (3 * (length (parts_of list.now) + (self.new.units - self.old.units)))
-            self.old self.new) }
-    {
-        self.run_list::<L>(Dir::tikz(), list, at, &mut Steps::new(blank))
+        self.run_list(Dir::tikz(), &list, at, steps)
     }
 
     /// Runs `draw`, `fill` or `draw,fill` without their tokens, where that is the text and they are the keys that are

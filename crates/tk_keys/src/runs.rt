@@ -44,6 +44,7 @@ impl State {
         ensures gives { (ev : Evaluation) → IsEvaluation ev → Gives (λ last. ending_of self.new last) result
             (runs (given_of ev self.old) (A_key_list (situation_of self.old) dir list.now at)) }
         ensures kept { OnOk result (Keeps self.old self.new) }
+        ensures used { OnOk result (self.old.units ≤ self.new.units) }
         ensures made { OnOk result (Makes (3 * (length (parts_of list.now) + (self.new.units - self.old.units)))
             self.old self.new) }
         ensures low { steps.old ≤ steps.new }
@@ -70,6 +71,7 @@ impl State {
         ensures gives { (ev : Evaluation) → IsEvaluation ev → Gives (λ last. ending_of self.new last) result
             (runs (given_of ev self.old) (Some_settings (standing_of self.old dir (unread list.now at)))) }
         ensures kept { OnOk result (Keeps self.old self.new) }
+        ensures used { OnOk result (self.old.units ≤ self.new.units) }
         ensures made { OnOk result (Makes (3 * (length list.now + (self.new.units - self.old.units)))
             self.old self.new) }
         ensures low { steps.old ≤ steps.new }
@@ -97,6 +99,7 @@ impl State {
         ensures state { result ≡ Ok false → self.new ≡ self.old }
         ensures list { result ≡ Ok false → input.new ≡ input.old }
         ensures kept { OnOk result (Keeps self.old self.new) }
+        ensures used { OnOk result (self.old.units ≤ self.new.units) }
         ensures made { OnOk result (self.new.levels.top.settings + 3 * (self.old.units + length input.new.rest)
             ≤ self.old.levels.top.settings + 3 * (self.new.units + length input.old.rest + 1)) }
         ensures low { steps.old ≤ steps.new }

@@ -41,3 +41,7 @@ paid_keeps a b pays = subst (KeepsDrawn a) (sym pays) (record {
   items = refl;
   proper = (λ h. h);
 })
+
+-- no setting is made where only units were paid
+pub settings_paid : (a b : Drawer) → OnlyPays a b → b.state.levels.top.settings ≡ a.state.levels.top.settings
+settings_paid a b pays = ap (λ (d : Drawer). d.state.levels.top.settings) pays

@@ -10,6 +10,9 @@ pub mod OperationMoves
 pub mod PathMoves
 pub mod Places
 pub mod Ranges
+pub mod StyleParts
 pub mod TargetMoves
 pub mod Unbounded
+pub mod Undone
 pub mod WordMoves
+pub mod WorkLeft

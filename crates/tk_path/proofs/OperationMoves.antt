@@ -143,7 +143,7 @@ module _ (P : ℕ → Type 0) (given : Given) (begin : P 0) (evaluates : Evaluat
   way_here gone (Cornered sign at) The_start c k l h = back_here gone (Cornered sign at) c k h
   way_here gone (Curved first second) The_start c k l h = back_here gone (Curved first second) c k h
 
-  goes_here : (gone : ℕ) (way : Way) (c : Configuration) → WayAt way → To gone c → Going P (To gone) (goes given way c)
+  pub goes_here : (gone : ℕ) (way : Way) (c : Configuration) → WayAt way → To gone c → Going P (To gone) (goes given way c)
   unfolding goes
   goes_here gone way c k h =
       then_going P (target_ahead_here P given from evaluates gone c h) (λ target a. way_here gone way target.value target.behind k a.0 a.1)
@@ -197,13 +197,13 @@ module _ (P : ℕ → Type 0) (given : Given) (begin : P 0) (evaluates : Evaluat
       then_going P (word_here P given from gone Controls first.behind e.1) (λ word f.
       behind_here gone first.value word.value word.behind e.0 (less P given from gone word.behind f.1)))
 
-  curve_here : (gone : ℕ) (c : Configuration) → To gone c → Going P (To gone) (curve given c)
+  pub curve_here : (gone : ℕ) (c : Configuration) → To gone c → Going P (To gone) (curve given c)
   unfolding curve
   curve_here gone c h = then_going P (curve_way_here gone c h) (λ way a. goes_here gone way.value way.behind a.0 a.1)
 
   -- ---- outlines
 
-  rectangle_here : (gone at : ℕ) (c : Configuration) → P at → To gone c → Going P (To gone) (rectangle given at c)
+  pub rectangle_here : (gone at : ℕ) (c : Configuration) → P at → To gone c → Going P (To gone) (rectangle given at c)
   unfolding rectangle
   rectangle_here gone at c p h =
       then_going P (goal_ahead_here P given from evaluates gone c h) (λ end a.
@@ -212,7 +212,7 @@ module _ (P : ℕ → Type 0) (given : Given) (begin : P 0) (evaluates : Evaluat
       (path_at P c h.good out beyond))) (λ path k.
       gives P _ (same_here P given from gone path end.behind a.1 k)))
 
-  text_here : (gone at : ℕ) (c : Configuration) → P at → To gone c → Going P (Reads (StandAt P) gone) (text_behind given at c)
+  pub text_here : (gone at : ℕ) (c : Configuration) → P at → To gone c → Going P (Reads (StandAt P) gone) (text_behind given at c)
   unfolding text_behind
   text_here gone at c p h =
       then_going P (closed_here P given from gone at c p h) (λ written w.
@@ -328,7 +328,7 @@ module _ (P : ℕ → Type 0) (given : Given) (begin : P 0) (evaluates : Evaluat
         };
       }))))
 
-  grid_by_here : (gone at : ℕ) (m : Measures) (c : Configuration) → P at → To gone c → Going P (To gone) (grid_by given at m c)
+  pub grid_by_here : (gone at : ℕ) (m : Measures) (c : Configuration) → P at → To gone c → Going P (To gone) (grid_by given at m c)
   unfolding grid_by
   grid_by_here gone at m c p h =
       then_going P (goal_ahead_here P given from evaluates gone c h) (λ end b. grid_to_here gone at m end.value end.behind p b.0 b.1)

@@ -34,7 +34,7 @@ use Rattle.tk_path.proofs.TargetMoves.{same_here, goal_here}
 use Rattle.tk_path.proofs.WordMoves.{word_from_here}
 
 module _ (P : ℕ → Type 0) (given : Given) (begin : P 0) (evaluates : EvaluatesAt P given) (from : Configuration) where
-  movement_here : (gone : ℕ) (first : Lookahead) → Taken P given from gone first → Going P (Here P given from (gone + 1)) (movement given first)
+  pub movement_here : (gone : ℕ) (first : Lookahead) → Taken P given from gone first → Going P (Here P given from (gone + 1)) (movement given first)
   unfolding movement
   movement_here gone first k =
       then_going P (coordinate_from_here P given from gone first k) (λ written a.

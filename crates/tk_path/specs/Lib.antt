@@ -7,5 +7,6 @@ pub mod Operations
 pub mod Paths
 pub mod Pictures
 pub mod Targets
+pub mod Undoing
 pub mod Views
 pub mod Words

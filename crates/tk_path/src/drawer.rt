@@ -1,6 +1,6 @@
 //! A picture as it is drawn, and what stands next in its list.
 
-ghost use Rattle.std.specs.Prelude.{◌≡◌, OnOk, ◌++◌};
+ghost use Rattle.std.specs.Prelude.{◌≡◌, ◌≤◌, length, IfOk, OnOk, ◌++◌};
 ghost use Rattle.std.specs.List.{AllByRecursion};
 ghost use Rattle.tk_svg.specs.Fitting.{BeginsWithMove, FitsItem};
 ghost use Rattle.tk_expr.specs.Evaluates.{Evaluation};
@@ -11,6 +11,7 @@ ghost use Rattle.tk_path.specs.Pictures as pictures;
 ghost use Rattle.tk_path.specs.Pictures.{drawn};
 ghost use Rattle.tk_outline.specs.CurrentPaths.{CurrentPath as ACurrentPath, no_path};
 ghost use Rattle.tk_path.specs.Views.{given_to, picture_of, configuration_of, lookahead_of, OnlyPays, IsSound};
+ghost use Rattle.tk_path.specs.Undoing.{work_left, with_taken};
 
 use std::alloc::AllocError;
 use tk_expand::Input;
@@ -44,6 +45,8 @@ impl Drawer {
             → Gives (λ tok. lookahead_of tok self.new path input.new) result
             (ahead_of (given_of ev self.old.state) (configuration_of self.old path input.old)) }
         ensures pays { OnlyPays self.old self.new }
+        ensures falls { IfOk result (λ tok.
+            work_left self.new (with_taken tok input.new) ≤ work_left self.old (length input.old.rest)) }
     {
         self.state.next_solid(input)
     }

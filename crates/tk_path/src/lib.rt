@@ -1,7 +1,6 @@
 //! Paths: what their operations draw.
 #![tactic(auto)]
 
-mod closing;
 mod coordinate;
 mod drawer;
 mod keys;
@@ -13,7 +12,6 @@ mod path;
 mod targets;
 mod words;
 
-pub use closing::close_level;
 pub use drawer::{Drawer, Flow};
 pub use keys::Style;
 pub use laws::{operations_are_never_stuck, operations_are_their_step};

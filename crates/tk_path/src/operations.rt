@@ -1,6 +1,6 @@
 //! The operations of a path.
 
-ghost use Rattle.std.specs.Prelude.{◌≡◌, OnOk, codes, Ok, ◌∷◌, []};
+ghost use Rattle.std.specs.Prelude.{◌≡◌, OnOk, codes, Ok, ◌∷◌, [], ◌≤◌, length};
 ghost use Rattle.tk_token.specs.Refusals.{Gives};
 ghost use Rattle.tk_expand.specs.Unread.{Unread};
 ghost use Rattle.tk_svg.specs.Fitting.{BeginsWithMove};
@@ -12,15 +12,18 @@ ghost use Rattle.tk_path.specs.Targets.{A_coordinate, The_start, origin_of};
 ghost use Rattle.tk_path.specs.Words.{past_word};
 ghost use Rattle.tk_path.specs.Views.{given_to, configuration_of, lookahead_of, reached_at, written_of, target_of};
 ghost use Rattle.tk_path.specs.Views.{control_of, way_of, OnlyPays, KeepsDrawn};
+ghost use Rattle.tk_path.specs.Undoing.{most_steps};
 
 use crate::coordinate::{Sign, Written};
 use crate::drawer::Drawer;
 use crate::targets::Target;
 use crate::words::{PathWord, Words};
+use std::sync::ledger::Ledger;
 use tk_coord::{CornerSign, corner_between};
 use tk_expand::Input;
 use tk_item::{Point, Seg};
 use tk_outline::{CurrentPath, Goal};
+use tk_store::Steps;
 use tk_token::{Code, Refusal, Tok};
 
 /// The second control point of a curve.
@@ -44,16 +47,20 @@ pub(crate) enum Way {
 impl Drawer {
     /// Draws the operation whose word stands at that place and was read; nodes and loops aren't built.
     #[tactic(auto, unfolding(crate::specs::Operations::operation))]
-    pub(crate) fn operation(
+    pub(crate) fn operation<L: Ledger>(
         &mut self,
         input: &mut Input,
         path: &mut CurrentPath,
         word: PathWord,
         at: u32,
+        steps: &mut Steps<L>,
     ) -> Result<(), Refusal>
         ensures gives { Gives (λ _. configuration_of self.new path.new input.new) result
             (spec.operation (given_to self.old) word at (configuration_of self.old path.old input.old)) }
         ensures kept { OnOk result (KeepsDrawn self.old self.new) }
+        ensures high { steps.new ≤ most_steps steps.old self.old (length input.old.rest) }
+        ensures most { OnOk result (most_steps steps.new self.new (length input.new.rest)
+            ≤ most_steps steps.old self.old (length input.old.rest)) }
     {
         match word {
             PathWord::Line => self.go(input, path, Way::Straight),
@@ -64,24 +71,32 @@ impl Drawer {
                 self.go(input, path, Way::Cornered(CornerSign::VerticalFirst, at))
             }
             PathWord::Dots => self.curve(input, path),
-            PathWord::To => self.to(input, path),
+            PathWord::To => self.to(input, path, steps),
             PathWord::Rectangle => self.rectangle(input, path, at),
-            PathWord::Circle => self.circle(input, path, at),
-            PathWord::Arc => self.arc(input, path, at),
-            PathWord::Grid => self.grid(input, path, at),
+            PathWord::Circle => self.circle(input, path, at, steps),
+            PathWord::Arc => self.arc(input, path, at, steps),
+            PathWord::Grid => self.grid(input, path, at, steps),
             _ => Err(Refusal::new(Code::Unbuilt, at)),
         }
     }
 
     /// Draws a straight line with options of its own, which leave nothing.
     #[tactic(auto, unfolding(crate::specs::Operations::to))]
-    fn to(&mut self, input: &mut Input, path: &mut CurrentPath) -> Result<(), Refusal>
+    fn to<L: Ledger>(
+        &mut self,
+        input: &mut Input,
+        path: &mut CurrentPath,
+        steps: &mut Steps<L>,
+    ) -> Result<(), Refusal>
         ensures gives { Gives (λ _. configuration_of self.new path.new input.new) result
             (spec.to (given_to self.old) (configuration_of self.old path.old input.old)) }
         ensures kept { OnOk result (KeepsDrawn self.old self.new) }
+        ensures high { steps.new ≤ most_steps steps.old self.old (length input.old.rest) }
+        ensures most { OnOk result (most_steps steps.new self.new (length input.new.rest)
+            ≤ most_steps steps.old self.old (length input.old.rest)) }
     {
         let first = self.ahead(input)?;
-        self.measures_from(input, first)?;
+        self.measures_from(input, first, steps)?;
         self.go(input, path, Way::Straight)
     }
 
@@ -90,7 +105,7 @@ impl Drawer {
     fn go(&mut self, input: &mut Input, path: &mut CurrentPath, way: Way) -> Result<(), Refusal>
         ensures gives { Gives (λ _. configuration_of self.new path.new input.new) result
             (spec.goes (given_to self.old) (way_of way) (configuration_of self.old path.old input.old)) }
-        ensures kept { OnOk result (KeepsDrawn self.old self.new) }
+        ensures pays { OnOk result (OnlyPays self.old self.new) }
     {
         match self.target_ahead(input)? {
             Target::Coordinate(written) => self.go_to(path, way, written),
@@ -104,7 +119,7 @@ impl Drawer {
         ensures gives { (rest : Unread) → Gives (λ _. configuration_of self.new path.new rest) result
             (spec.way_to (given_to self.old) (way_of way) (A_coordinate (written_of written))
             (configuration_of self.old path.old rest)) }
-        ensures kept { OnOk result (KeepsDrawn self.old self.new) }
+        ensures pays { OnOk result (OnlyPays self.old self.new) }
     {
         let origin = self.origin();
         let end = self.goal_of(path, written)?;
@@ -118,7 +133,7 @@ impl Drawer {
     fn go_back(&mut self, path: &mut CurrentPath, way: Way) -> Result<(), Refusal>
         ensures gives { (rest : Unread) → Gives (λ _. configuration_of self.new path.new rest) result
             (spec.way_to (given_to self.old) (way_of way) The_start (configuration_of self.old path.old rest)) }
-        ensures kept { OnOk result (KeepsDrawn self.old self.new) }
+        ensures pays { OnOk result (OnlyPays self.old self.new) }
     {
         let origin = self.origin();
         match way {
@@ -255,7 +270,7 @@ impl Drawer {
     fn curve(&mut self, input: &mut Input, path: &mut CurrentPath) -> Result<(), Refusal>
         ensures gives { Gives (λ _. configuration_of self.new path.new input.new) result
             (spec.curve (given_to self.old) (configuration_of self.old path.old input.old)) }
-        ensures kept { OnOk result (KeepsDrawn self.old self.new) }
+        ensures pays { OnOk result (OnlyPays self.old self.new) }
     {
         let way = self.curve_way(input, path)?;
         self.go(input, path, way)

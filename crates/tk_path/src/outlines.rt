@@ -1,17 +1,20 @@
 //! Rectangles, circles, arcs and grids.
 
-ghost use Rattle.std.specs.Prelude.{◌≡◌, OnOk};
+ghost use Rattle.std.specs.Prelude.{◌≡◌, OnOk, ◌≤◌, length};
 ghost use Rattle.tk_token.specs.Refusals.{Gives};
 ghost use Rattle.tk_expand.specs.Unread.{Unread};
 ghost use Rattle.tk_outline.specs.CurrentPaths.{CurrentPath as ACurrentPath};
 ghost use Rattle.tk_path.specs.Operations as spec;
 ghost use Rattle.tk_path.specs.Views.{given_to, configuration_of, lookahead_of, reached_at, OnlyPays, KeepsDrawn};
+ghost use Rattle.tk_path.specs.Undoing.{most_steps, with_taken};
 
 use crate::coordinate::written_text;
 use crate::drawer::{Drawer, misfit};
+use std::sync::ledger::Ledger;
 use tk_affine::answer_at;
 use tk_expand::{Input, is_there};
 use tk_outline::{ArcMeasures, ArcText, CurrentPath, Goal, Measures, arc_in, radii_in};
+use tk_store::Steps;
 use tk_token::{Refusal, Tok};
 
 impl Drawer {
@@ -25,7 +28,7 @@ impl Drawer {
     ) -> Result<(), Refusal>
         ensures gives { Gives (λ _. configuration_of self.new path.new input.new) result
             (spec.rectangle (given_to self.old) at (configuration_of self.old path.old input.old)) }
-        ensures kept { OnOk result (KeepsDrawn self.old self.new) }
+        ensures pays { OnOk result (OnlyPays self.old self.new) }
     {
         let to = self.goal_ahead(input, path)?;
         let matrix = self.state.graphics().matrix;
@@ -48,18 +51,22 @@ impl Drawer {
 
     /// Draws a circle or an ellipse round the current point, whose word stands at that place.
     #[tactic(auto, unfolding(crate::specs::Operations::circle))]
-    pub(crate) fn circle(
+    pub(crate) fn circle<L: Ledger>(
         &mut self,
         input: &mut Input,
         path: &mut CurrentPath,
         at: u32,
+        steps: &mut Steps<L>,
     ) -> Result<(), Refusal>
         ensures gives { Gives (λ _. configuration_of self.new path.new input.new) result
             (spec.circle (given_to self.old) at (configuration_of self.old path.old input.old)) }
         ensures kept { OnOk result (KeepsDrawn self.old self.new) }
+        ensures high { steps.new ≤ most_steps steps.old self.old (length input.old.rest) }
+        ensures most { OnOk result (most_steps steps.new self.new (length input.new.rest)
+            ≤ most_steps steps.old self.old (length input.old.rest)) }
     {
         let first = self.ahead(input)?;
-        match self.circle_measures(input, first) {
+        match self.circle_measures(input, first, steps) {
             Ok(measures) => self.circle_with(path, at, measures),
             Err(refusal) => Err(refusal),
         }
@@ -67,17 +74,21 @@ impl Drawer {
 
     /// What a circle is measured by, where the first token behind its word was taken.
     #[tactic(auto, unfolding(crate::specs::Operations::circle_measures))]
-    fn circle_measures(
+    fn circle_measures<L: Ledger>(
         &mut self,
         input: &mut Input,
         first: Option<Tok>,
+        steps: &mut Steps<L>,
     ) -> Result<Measures, Refusal>
         ensures gives { (path : ACurrentPath) → Gives (λ measures. reached_at measures self.new path input.new) result
             (spec.circle_measures (given_to self.old) (lookahead_of first self.old path input.old)) }
         ensures kept { OnOk result (KeepsDrawn self.old self.new) }
+        ensures high { steps.new ≤ most_steps steps.old self.old (with_taken first input.old) }
+        ensures most { OnOk result (most_steps steps.new self.new (length input.new.rest)
+            ≤ most_steps steps.old self.old (with_taken first input.old)) }
     {
         if !is_there(first, '(') {
-            return self.measures_from(input, first);
+            return self.measures_from(input, first, steps);
         }
         let place = input.place(first);
         let text = self.text_behind(input, place)?;
@@ -109,18 +120,22 @@ impl Drawer {
 
     /// Draws an arc that begins at the current point, whose word stands at that place.
     #[tactic(auto, unfolding(crate::specs::Operations::arc))]
-    pub(crate) fn arc(
+    pub(crate) fn arc<L: Ledger>(
         &mut self,
         input: &mut Input,
         path: &mut CurrentPath,
         at: u32,
+        steps: &mut Steps<L>,
     ) -> Result<(), Refusal>
         ensures gives { Gives (λ _. configuration_of self.new path.new input.new) result
             (spec.arc (given_to self.old) at (configuration_of self.old path.old input.old)) }
         ensures kept { OnOk result (KeepsDrawn self.old self.new) }
+        ensures high { steps.new ≤ most_steps steps.old self.old (length input.old.rest) }
+        ensures most { OnOk result (most_steps steps.new self.new (length input.new.rest)
+            ≤ most_steps steps.old self.old (length input.old.rest)) }
     {
         let first = self.ahead(input)?;
-        match self.arc_measures(input, at, first) {
+        match self.arc_measures(input, at, first, steps) {
             Ok(arc) => self.arc_with(path, at, arc),
             Err(refusal) => Err(refusal),
         }
@@ -128,15 +143,19 @@ impl Drawer {
 
     /// What an arc is measured by, where the first token behind its word was taken.
     #[tactic(auto, unfolding(crate::specs::Operations::arc_measures))]
-    fn arc_measures(
+    fn arc_measures<L: Ledger>(
         &mut self,
         input: &mut Input,
         at: u32,
         first: Option<Tok>,
+        steps: &mut Steps<L>,
     ) -> Result<ArcMeasures, Refusal>
         ensures gives { (path : ACurrentPath) → Gives (λ measures. reached_at measures self.new path input.new) result
             (spec.arc_measures (given_to self.old) at (lookahead_of first self.old path input.old)) }
         ensures kept { OnOk result (KeepsDrawn self.old self.new) }
+        ensures high { steps.new ≤ most_steps steps.old self.old (with_taken first input.old) }
+        ensures most { OnOk result (most_steps steps.new self.new (length input.new.rest)
+            ≤ most_steps steps.old self.old (with_taken first input.old)) }
     {
         let place = input.place(first);
         if is_there(first, '(') {
@@ -151,7 +170,7 @@ impl Drawer {
         if !is_there(first, '[') {
             return Err(misfit(place));
         }
-        let measures = self.inner_measures(input, place)?;
+        let measures = self.inner_measures(input, place, steps)?;
         let sweep = measures.sweep(at)?;
         Ok(ArcMeasures { measures, sweep })
     }
@@ -173,18 +192,22 @@ impl Drawer {
     /// Draws a grid from the current point to the coordinate that is next, with options of its own; its word stands at
     /// that place.
     #[tactic(auto, unfolding(crate::specs::Operations::grid))]
-    pub(crate) fn grid(
+    pub(crate) fn grid<L: Ledger>(
         &mut self,
         input: &mut Input,
         path: &mut CurrentPath,
         at: u32,
+        steps: &mut Steps<L>,
     ) -> Result<(), Refusal>
         ensures gives { Gives (λ _. configuration_of self.new path.new input.new) result
             (spec.grid (given_to self.old) at (configuration_of self.old path.old input.old)) }
         ensures kept { OnOk result (KeepsDrawn self.old self.new) }
+        ensures high { steps.new ≤ most_steps steps.old self.old (length input.old.rest) }
+        ensures most { OnOk result (most_steps steps.new self.new (length input.new.rest)
+            ≤ most_steps steps.old self.old (length input.old.rest)) }
     {
         let first = self.ahead(input)?;
-        match self.measures_from(input, first) {
+        match self.measures_from(input, first, steps) {
             Ok(measures) => self.grid_by(input, path, at, measures),
             Err(refusal) => Err(refusal),
         }
@@ -201,7 +224,7 @@ impl Drawer {
     ) -> Result<(), Refusal>
         ensures gives { Gives (λ _. configuration_of self.new path.new input.new) result
             (spec.grid_by (given_to self.old) at measures (configuration_of self.old path.old input.old)) }
-        ensures kept { OnOk result (KeepsDrawn self.old self.new) }
+        ensures pays { OnOk result (OnlyPays self.old self.new) }
     {
         let to = self.goal_ahead(input, path)?;
         self.grid_to(path, at, &measures, &to)

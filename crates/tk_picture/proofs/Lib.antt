@@ -7,5 +7,7 @@ pub mod Numbered
 pub mod Outcomes
 pub mod Returning
 pub mod Scopes
+pub mod SettingsLeft
 pub mod Sources
+pub mod TokenCounts
 pub mod Unbounded

@@ -1,5 +1,7 @@
 -- Private: only private contracts use this. What the code holds, as the definitions see it.
-use Rattle.std.specs.Prelude.{◌≡◌}
+use Rattle.std.specs.Prelude.{◌≡◌, ◌≤◌, ℕ, List, length}
+use Rattle.tk_token.specs.Texts.{tokens_of}
+use Rattle.tk_keytext.specs.Parts.{parts_of}
 use Rattle.tk_expand.specs.Unread.{Unread}
 use Rattle.tk_keys.specs.Environment.{first_env}
 use Rattle.tk_keys.specs.State.{env_of}
@@ -53,3 +55,12 @@ pub record IsNew (d : Drawer) : Type 0 where
   pub env : env_of d.state ≡ first_env (given_to d)
   pub picture : picture_of d no_path ≡ first_picture
   pub units : d.state.units ≡ 0
+
+-- a command runs two keys at most
+abbrev pub RunsFew : List ℕ → Type 0
+RunsFew keys = (at : ℕ) → length (parts_of (tokens_of at keys)) ≤ 2
+
+-- the same of what a token begins
+abbrev pub BeginsFew : code_beginning.Beginning → Type 0
+BeginsFew (beginnings.Path keys) = RunsFew keys.now
+BeginsFew _ = Unit {0}

@@ -1,6 +1,6 @@
 //! Whole sources.
 
-ghost use Rattle.std.specs.Prelude.{◌≡◌, ◌≤◌, List, Ok, Err, length, take, IfOk, IfErr, OnOk, IfSome, codes, unwrap_or};
+ghost use Rattle.std.specs.Prelude.{◌≡◌, ◌≤◌, ◌+◌, ◌*◌, List, Ok, Err, length, take, IfOk, IfErr, OnOk, IfSome, codes, unwrap_or};
 ghost use Rattle.std.specs.Str.{IsUtf8};
 ghost use Rattle.tk_item.specs.Frame.{IsProperFrame};
 ghost use Rattle.tk_svg.specs.Fitting.{Fits};
@@ -11,19 +11,21 @@ ghost use Rattle.tk_picture.specs.declared.Compiled.{Compiled as ACompiled};
 ghost use Rattle.tk_picture.specs.Documents.{is_word, no_frame, compiled, nothing_after, picture_behind, document};
 ghost use Rattle.tk_picture.specs.Outcome.{IsOutcome, font_units};
 ghost use Rattle.tk_outline.specs.CurrentPaths.{no_path};
+ghost use Rattle.tk_path.specs.Undoing.{most_steps};
 ghost use Rattle.tk_path.specs.Views.{given_to, picture_of, IsSound};
 ghost use Rattle.tk_picture.specs.Views.{IsNew};
 
 use crate::commands::{BlockOpener, styled_commands};
 use crate::{Asked, Compiled, unbuilt};
 use std::alloc::{AllocError, Global};
+use std::sync::ledger::Ledger;
 use tk_expand::Input;
 use tk_expr::FontUnits;
 use tk_item::{Drawing, Frame, Items, Text};
 use tk_keys::State;
 use tk_num::{ONE, Scaled};
 use tk_path::{Drawer, Style};
-use tk_store::Body;
+use tk_store::{Body, Steps};
 use tk_token::{Code, Fault, Kind, Lexed, Refusal, Tok, lex};
 
 /// A font size of 10pt.
@@ -68,7 +70,12 @@ const EX: i64 = 281_805;
 ///   the transformation so.
 /// - `Unbuilt` comes before the picture and behind it at the first token with which no source of the form goes on, at
 ///   the source's length where it ends outside the picture, and at `\node`, `\coordinate` and `\foreach`.
-pub fn compile(alloc: Global, source: &[u8], asked: Asked) -> Result<Compiled, Refusal>
+pub fn compile<L: Ledger>(
+    alloc: Global,
+    source: &[u8],
+    asked: Asked,
+    steps: &mut Steps<L>,
+) -> Result<Compiled, Refusal>
     requires short { length source.now ≤ 16777216 }
     requires few { asked.budget ≤ 20000000 }
     ensures compiled { IfOk result (λ c. IsOutcome asked source.now (Ok c)) }
@@ -78,6 +85,9 @@ pub fn compile(alloc: Global, source: &[u8], asked: Asked) -> Result<Compiled, R
     ensures fits { IfOk result (λ c. Fits c.drawing) }
     ensures place { IfErr result (λ e. OnFault e (λ f. f.at ≤ length source.now)) }
     ensures text { IfErr result (λ e. OnFault e (λ f. IsUtf8 (take f.at source.now))) }
+
+    // A step is one setting that is undone, where a level ends; this holds of a fault too.
+    ensures work { steps.new ≤ steps.old + 9 * (length source.now + asked.budget) }
 {
     let family = family(alloc)?;
     let Lexed { toks, names } = lex(alloc, source)?;
@@ -87,37 +97,54 @@ pub fn compile(alloc: Global, source: &[u8], asked: Asked) -> Result<Compiled, R
         items: Items::new(alloc),
         frame: None,
     };
-    document(&mut drawer, &mut input)?;
+    document(&mut drawer, &mut input, steps)?;
     Ok(compiled(drawer, family))
 }
 
 /// Draws the picture of a whole source.
 #[tactic(auto, unfolding(crate::specs::Documents::document))]
-fn document(drawer: &mut Drawer, input: &mut Input) -> Result<(), Refusal>
+fn document<L: Ledger>(
+    drawer: &mut Drawer,
+    input: &mut Input,
+    steps: &mut Steps<L>,
+) -> Result<(), Refusal>
     requires { IsNew drawer.old }
     ensures gives { Gives (λ _. compiled (picture_of drawer.new no_path) drawer.new.state.units) result
         (document (given_to drawer.old) input.old) }
     ensures sound { OnOk result (IsSound drawer.new) }
+    ensures work { steps.new ≤ most_steps steps.old drawer.old (length input.old.rest) }
 {
     input.skip_spaces();
     let begin = input.token(Code::Unbuilt)?;
     if !is_word(drawer, begin.kind, "begin") {
         return Err(unbuilt(begin.at).into());
     }
-    picture(drawer, input, begin.at)
+    picture(drawer, input, begin.at, steps)
 }
 
 /// Draws the picture behind a `\begin` at that place, with nothing behind it.
 #[tactic(auto, unfolding(crate::specs::Documents::picture_behind))]
-fn picture(drawer: &mut Drawer, input: &mut Input, at: u32) -> Result<(), Refusal>
+fn picture<L: Ledger>(
+    drawer: &mut Drawer,
+    input: &mut Input,
+    at: u32,
+    steps: &mut Steps<L>,
+) -> Result<(), Refusal>
     requires { IsNew drawer.old }
     ensures gives { Gives (λ _. compiled (picture_of drawer.new no_path) drawer.new.state.units) result
         (picture_behind (given_to drawer.old) at input.old) }
     ensures sound { OnOk result (IsSound drawer.new) }
+    ensures work { steps.new ≤ most_steps steps.old drawer.old (length input.old.rest) }
 {
     input.expect_name(Code::Unbuilt, b"tikzpicture")?;
     drawer.state.open(at)?;
-    styled_commands(drawer, input, Style::EveryPicture, BlockOpener::Picture(at))?;
+    styled_commands(
+        drawer,
+        input,
+        Style::EveryPicture,
+        BlockOpener::Picture(at),
+        steps,
+    )?;
     Ok(expect_nothing(input)?)
 }
 

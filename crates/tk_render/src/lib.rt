@@ -1,7 +1,7 @@
 //! From the source of a picture to the bytes of its SVG document, or to its first fault with line and column.
 #![tactic(auto)]
 
-ghost use Rattle.std.specs.Prelude.{◌≡◌, ◌≤◌, length, take, IfOk, IfErr};
+ghost use Rattle.std.specs.Prelude.{◌≡◌, ◌<◌, ◌≤◌, length, take, IfOk, IfErr};
 ghost use Rattle.std.specs.Str.{IsUtf8};
 ghost use Rattle.tk_token.specs.Refusals.{OnFault};
 ghost use Rattle.tk_render.specs.declared.NoSvg.TheVariants.{OutOfMemory};
@@ -12,7 +12,10 @@ mod laws;
 
 pub use laws::a_source_comes_to_one_answer;
 use std::alloc::{AllocError, Global};
+use std::marker::Brand;
+use std::sync::ledger::{Blank, Ledger};
 use tk_picture::{Asked, compile};
+use tk_store::Steps;
 use tk_svg::document_means_one;
 use tk_svgwrite::write_svg;
 use tk_token::{Code, Refusal, place};
@@ -50,7 +53,25 @@ pub fn render(alloc: Global, source: &[u8], asked: Asked) -> Result<Vec<u8>, NoS
     ensures document { IfOk result (λ document. IsSvgOf asked source.now document.items) }
     ensures fault { IfErr result (Explains asked source.now) }
 {
-    match compile(alloc, source, asked) {
+    render_counting::<Brand>(alloc, source, asked, Blank::new(1))
+}
+
+/// The same, with a count of the steps of its own.
+fn render_counting<L: Ledger>(
+    alloc: Global,
+    source: &[u8],
+    asked: Asked,
+    blank: Blank,
+) -> Result<Vec<u8>, NoSvg>
+    requires short { length source.now ≤ 16777216 }
+    requires few { asked.budget ≤ 20000000 }
+    requires name { blank.name ≡ L.name }
+    requires parts { blank.parts ≡ L.parts }
+    requires some { 0 < L.parts }
+    ensures document { IfOk result (λ document. IsSvgOf asked source.now document.items) }
+    ensures fault { IfErr result (Explains asked source.now) }
+{
+    match compile::<L>(alloc, source, asked, &mut Steps::new(blank)) {
         Ok(compiled) => {
             // A law, for the proof: the document reads back as no other drawing.
             document_means_one();

@@ -11,7 +11,7 @@ use Rattle.tk_path.proofs.Levels.{ahead_goes}
 use Rattle.tk_path.proofs.drawer.Drawer.options_ahead.Goals as goal
 
 pub returns-clause-gives : goal.returns-clause-gives
-returns-clause-gives c ev is path =
+returns-clause-gives g c ev is path =
     let first = lookahead_of c.in_ok-first.first c.ahead.new.self path c.ahead.new.input in
     let given = given_of ev c.args.self.now.state in
     subst (λ (m : Answer Configuration). Gives (λ _. configuration_of c.options_from.new.self path c.options_from.new.input) c.options_from.result m)

@@ -9,7 +9,7 @@ use Rattle.tk_path.specs.Views.{configuration_of}
 use Rattle.tk_path.proofs.drawer.Drawer.run_path.Goals as goal
 
 pub returns-clause-gives : goal.returns-clause-gives
-returns-clause-gives c ev is =
+returns-clause-gives g c ev is =
     subst (λ (e : Evaluation). Gives (λ _. configuration_of c.path.new.self no_path c.path.new.input) c.path.result
     (paths.path (given_of e c.args.self.now.state) (configuration_of c.args.self.now no_path c.args.input.now)))
     (is_evaluated ev is) c.path.ensures.gives

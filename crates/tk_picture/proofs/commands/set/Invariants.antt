@@ -1,4 +1,0 @@
-use Rattle.tk_picture.proofs.commands.set.Given as goal
-
-abbrev pub ghosts-set_counting : goal.ghosts-set_counting
-ghosts-set_counting a = record { name = a.blank.name; parts = a.blank.parts }
