@@ -18,7 +18,7 @@ use Rattle.tk_item.specs.declared.Drawing.{Drawing}
 use Rattle.tk_svg.specs.Scan.{attribute}
 use Rattle.tk_svg.specs.Scan.{are_among, are_distinct}
 use Rattle.tk_svg.specs.Paint.{paint_names, fill_of, stroke_of}
-use Rattle.tk_svg.specs.Document.{IsPathElement, Content, IsSvg, IsDocument, IsFamily, is_family_char, size_of, points_value, declaration}
+use Rattle.tk_svg.specs.Document.{IsPathElement, Content, IsSvg, IsDocument, is_family_char, size_of, points_value, declaration}
 use Rattle.tk_svg.specs.Document as doc
 use Rattle.tk_svg.specs.Fitting.{Fits, FitsItem, FitsBox}
 use Rattle.tk_svg.proofs.Numbers.{number_back}

@@ -10,9 +10,6 @@ use Rattle.tk_svg.proofs.Unique.{and_true}
 use Rattle.tk_svgwrite.specs.Values.{OptionalAttribute, differing}
 use Rattle.tk_svgwrite.proofs.Numbers.{is_plain}
 
-bytes_eq-same : (xs : List ℕ) → bytes_eq xs xs ≡ true
-bytes_eq-same xs = (bytes_eq-Decides xs xs).1 refl
-
 or_false : (a b : Bool) → (a || b) ≡ false → (a ≡ false) × (b ≡ false)
 or_false true b e = absurd (false≢true (sym e))
 or_false false b e = (refl, e)

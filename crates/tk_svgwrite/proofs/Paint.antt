@@ -25,7 +25,7 @@ use Rattle.tk_svg.specs.Paint.{dashes_of, fill_of, stroke_of}
 use Rattle.tk_svg.specs.Fitting.{FitsBox, FitsStroke}
 use Rattle.tk_svg.proofs.Unique.{and_true}
 use Rattle.tk_svgwrite.specs.Plain.{fill_attributes}
-use Rattle.tk_svgwrite.specs.Values.{numbers_text, hex_glyph, hex_text, rgb_text, rule_text, cap_text, join_text, dash_text}
+use Rattle.tk_svgwrite.specs.Values.{numbers_text, hex_glyph, rgb_text, rule_text, cap_text, join_text, dash_text}
 use Rattle.tk_svgwrite.specs.Plain.{stroke_attributes}
 use Rattle.tk_svgwrite.specs.Values.{differing}
 use Rattle.tk_svgwrite.specs.Ranges.{RgbInRange, FillInRange, StrokeInRange}
@@ -54,9 +54,6 @@ paint_back c h = rw (rgb_back c h) refl
 
 glyph_plain : (d : ℕ) → d < 16 → is_plain (hex_glyph d) ≡ true
 glyph_plain d lt = grind (arith, nat_tests)
-
-hex_plain : (n : ℕ) → n < 256 → list_all is_plain (hex_text n) ≡ true
-hex_plain n lt = rw (glyph_plain (n / 16) (omega arith), glyph_plain (n % 16) (omega arith)) refl
 
 pub rgb_plain : (c : Rgb) → RgbInRange c → list_all is_plain (rgb_text c) ≡ true
 rgb_plain c h =

@@ -21,7 +21,7 @@ use Rattle.tk_svg.specs.Paint.{value_or_initial, fill_of, stroke_of}
 use Rattle.tk_svg.specs.Document.{text_names, IsTextElement, is_content_byte}
 use Rattle.tk_svg.proofs.Unique.{and_true}
 use Rattle.tk_svgwrite.specs.Values.{attributes_text, differing, numbers_text, matrix_text, rgb_text, escaped, content_text}
-use Rattle.tk_svgwrite.specs.Plain.{is_upright, matrix_of, label_attributes, label_text}
+use Rattle.tk_svgwrite.specs.Plain.{is_upright, matrix_numbers, label_attributes, label_text}
 use Rattle.tk_svgwrite.specs.Ranges.{PointInRange, LabelInRange}
 use Rattle.tk_svgwrite.proofs.Numbers.{is_plain, all_both, text_plain, numbers_plain, list_back}
 use Rattle.tk_svgwrite.proofs.PathData.{neg-neg, scaled_fits, neg_fits, unsigned_abs-neg}
@@ -215,7 +215,7 @@ negative_scaled z h = omega (arith, h, unsigned_abs-neg z)
 pub point_back : (p : Point) (n : ℤ) → n ≡ neg_ℤ p.y → IsScaled p.x → IsScaled n → PointInRange p
 point_back p n e h i = record { x = h; y = subst IsScaled (ap neg_ℤ e ∙ neg-neg p.y) (negative_scaled n i) }
 
-matrix_scaled : (label : Label) → LabelInRange label → AllByRecursion IsScaled (matrix_of label)
+matrix_scaled : (label : Label) → LabelInRange label → AllByRecursion IsScaled (matrix_numbers label)
 matrix_scaled label h = (
   h.matrix.a,
   (
@@ -252,7 +252,7 @@ point_is label a b c d = λ k. Some (item.Label (record {
   text = label.text;
 }))
 
-matrix_is : (label : Label) → label_of (matrix_of label) label.rgb label.text ≡ Some (item.Label label)
+matrix_is : (label : Label) → label_of (matrix_numbers label) label.rgb label.text ≡ Some (item.Label label)
 matrix_is label = λ k. Some (item.Label (record {
   at = record { x = label.at.x; y = neg-neg label.at.y k };
   a = label.a;
@@ -264,7 +264,7 @@ matrix_is label = λ k. Some (item.Label (record {
 }))
 
 placed_as : (label : Label) → LabelInRange label → (upright black : Bool) (colour : List ℕ) → is_upright label ≡ upright
-    → PlacedAs (label_own upright black (text_of label.at.x) (text_of (neg_ℤ label.at.y)) (matrix_text (matrix_of label)) colour) label
+    → PlacedAs (label_own upright black (text_of label.at.x) (text_of (neg_ℤ label.at.y)) (matrix_text (matrix_numbers label)) colour) label
 placed_as label h true black colour e =
     let parts = and_true _ _ e in
     let size = and_true _ _ parts.0 in
@@ -276,26 +276,26 @@ placed_as label h true black colour e =
           ((Decides-int_eq _ _).0 size.1);
     }
   where
-    at_point : (b : Bool) → IsPlaced (label_own true b (text_of label.at.x) (text_of (neg_ℤ label.at.y)) (matrix_text (matrix_of label)) colour)
+    at_point : (b : Bool) → IsPlaced (label_own true b (text_of label.at.x) (text_of (neg_ℤ label.at.y)) (matrix_text (matrix_numbers label)) colour)
         (pos 65536 ∷ pos 0 ∷ pos 0 ∷ pos 65536 ∷ label.at.x ∷ neg_ℤ label.at.y ∷ [])
     at_point true =
         by_point refl refl refl (scaled_back label.at.x h.at.x) (scaled_back (neg_ℤ label.at.y) (negative_scaled label.at.y h.at.y))
     at_point false =
         by_point refl refl refl (scaled_back label.at.x h.at.x) (scaled_back (neg_ℤ label.at.y) (negative_scaled label.at.y h.at.y))
 placed_as label h false black colour e = record {
-  numbers = matrix_of label;
+  numbers = matrix_numbers label;
   placed = by_its_matrix black;
   is = matrix_is label;
 }
   where
     by_its_matrix : (b : Bool)
-        → IsPlaced (label_own false b (text_of label.at.x) (text_of (neg_ℤ label.at.y)) (matrix_text (matrix_of label)) colour) (matrix_of label)
+        → IsPlaced (label_own false b (text_of label.at.x) (text_of (neg_ℤ label.at.y)) (matrix_text (matrix_numbers label)) colour) (matrix_numbers label)
     by_its_matrix true =
-        by_matrix (numbers_text (matrix_of label)) refl refl refl (list_back 6 label.a _ (lit< tt) (all_fit (matrix_of label) (matrix_scaled label h)))
-        (scaled_list (matrix_of label) (matrix_scaled label h))
+        by_matrix (numbers_text (matrix_numbers label)) refl refl refl (list_back 6 label.a _ (lit< tt) (all_fit (matrix_numbers label) (matrix_scaled label h)))
+        (scaled_list (matrix_numbers label) (matrix_scaled label h))
     by_its_matrix false =
-        by_matrix (numbers_text (matrix_of label)) refl refl refl (list_back 6 label.a _ (lit< tt) (all_fit (matrix_of label) (matrix_scaled label h)))
-        (scaled_list (matrix_of label) (matrix_scaled label h))
+        by_matrix (numbers_text (matrix_numbers label)) refl refl refl (list_back 6 label.a _ (lit< tt) (all_fit (matrix_numbers label) (matrix_scaled label h)))
+        (scaled_list (matrix_numbers label) (matrix_scaled label h))
 
 -- ---- the element
 
@@ -304,9 +304,9 @@ unfolding differing
 label_written label h =
     own_written (is_upright label) (bytes_eq (rgb_text label.rgb) (codes "#000000")) _ _ _ _ (text_plain label.at.x (scaled_fits label.at.x h.at.x))
     (text_plain (neg_ℤ label.at.y) (neg_fits label.at.y h.at.y))
-    (all_both is_plain (codes "matrix(") (numbers_text (matrix_of label) ++ codes ")") refl
-    (all_both is_plain (numbers_text (matrix_of label)) (codes ")") (numbers_plain (matrix_of label)
-    (all_fit (matrix_of label) (matrix_scaled label h))) refl))
+    (all_both is_plain (codes "matrix(") (numbers_text (matrix_numbers label) ++ codes ")") refl
+    (all_both is_plain (numbers_text (matrix_numbers label)) (codes ")") (numbers_plain (matrix_numbers label)
+    (all_fit (matrix_numbers label) (matrix_scaled label h))) refl))
     (rgb_plain label.rgb h.colour)
 
 pub label_is : (label : Label) → LabelInRange label → FitsText label.text
@@ -315,7 +315,7 @@ unfolding differing
 label_is label h f =
     let own = label_attributes label in
     let holds = text_own (is_upright label) (bytes_eq (rgb_text label.rgb) (codes "#000000")) (text_of label.at.x) (text_of (neg_ℤ label.at.y))
-    (matrix_text (matrix_of label)) (rgb_text label.rgb) refl in
+    (matrix_text (matrix_numbers label)) (rgb_text label.rgb) refl in
     let stands = placed_as label h (is_upright label) (bytes_eq (rgb_text label.rgb) (codes "#000000")) (rgb_text label.rgb) refl in
     record {
       numbers = stands.numbers;

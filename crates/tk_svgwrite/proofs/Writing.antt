@@ -24,7 +24,7 @@ use Rattle.tk_svgwrite.specs.Plain.{fill_attributes, stroke_attributes, item_tex
 use Rattle.tk_svgwrite.specs.Values.{join_text, dash_text, data_text}
 use Rattle.tk_svgwrite.specs.Plain.{points_text, box_text, svg_text, document_text}
 use Rattle.tk_svgwrite.specs.Values.{matrix_text, content_text}
-use Rattle.tk_svgwrite.specs.Plain.{matrix_of, placing_attributes, label_attributes, label_text}
+use Rattle.tk_svgwrite.specs.Plain.{matrix_numbers, placing_attributes, label_attributes, label_text}
 use Rattle.tk_svgwrite.specs.Presentations.{presentation_text}
 use Rattle.tk_svgwrite.proofs.Paint.{all_fit, dash_no_none}
 
@@ -141,12 +141,6 @@ all_step P xs i x lt here so_far more = All-more P xs i x lt so_far (subst P her
 
 -- ---- the letters of a family
 
-pub letters_step : (xs : List ℕ) (i x : ℕ) (before now new : List ℕ) → i < length xs → x ≡ get_or xs i x → now ≡ before ++ take i xs
-    → new ≡ now ++ x ∷ [] → new ≡ before ++ take (i + 1) xs
-letters_step xs i x before now new lt here so_far more =
-    more ∙ ap (λ (w : List ℕ). w ++ x ∷ []) so_far ∙ append_assoc before (take i xs) (x ∷ []) ∙ ap (λ (w : List ℕ). before ++ w)
-    (sym (take_more xs i x lt ∙ ap (λ y. take i xs ++ y ∷ []) (sym here)))
-
 pub family_parts : (before opened now family : List ℕ) (i : ℕ) → length family ≤ i
     → opened ≡ before ++ (codes " " ++ codes "font-family" ++ codes "=\"") → now ≡ opened ++ take i family
     → now ++ codes "\"" ≡ before ++ attribute_text (codes "font-family", family)
@@ -262,7 +256,7 @@ label_parts before o1 o2 o3 o4 o5 all colour label c h1 h2 h3 h4 h5 h6 =
 
 pub matrix_parts : (before o1 o2 o3 o4 : List ℕ) (numbers : List ℤ) (label : Label)
     → o1 ≡ before ++ (codes " " ++ codes "transform" ++ codes "=\"") → o2 ≡ o1 ++ codes "matrix(" → o3 ≡ o2 ++ numbers_text numbers
-    → o4 ≡ o3 ++ codes ")" → numbers ≡ matrix_of label → o4 ++ codes "\"" ≡ before ++ attributes_text ((codes "transform", matrix_text (matrix_of label)) ∷ [])
+    → o4 ≡ o3 ++ codes ")" → numbers ≡ matrix_numbers label → o4 ++ codes "\"" ≡ before ++ attributes_text ((codes "transform", matrix_text (matrix_numbers label)) ∷ [])
 matrix_parts before o1 o2 o3 o4 numbers label h1 h2 h3 h4 e =
     ap (λ (w : List ℕ). w ++ codes "\"") (h4 ∙ ap (λ (w : List ℕ). w ++ codes ")") (h3
     ∙ ap (λ (w : List ℕ). w ++ numbers_text numbers) (h2 ∙ ap (λ (w : List ℕ). w ++ codes "matrix(") h1)))

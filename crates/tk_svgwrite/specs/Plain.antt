@@ -48,8 +48,8 @@ path_attributes segs fill stroke =
 -- ---- a label
 
 -- the six numbers of its matrix, with y turned downward
-abbrev pub matrix_of : Label → List ℤ
-matrix_of label = label.a ∷ neg_ℤ label.b ∷ neg_ℤ label.c ∷ label.d ∷ numbers_of_point label.at
+abbrev pub matrix_numbers : Label → List ℤ
+matrix_numbers label = label.a ∷ neg_ℤ label.b ∷ neg_ℤ label.c ∷ label.d ∷ numbers_of_point label.at
 
 -- it is neither turned nor scaled
 abbrev pub is_upright : Label → Bool
@@ -61,7 +61,7 @@ abbrev pub placing_attributes : Label → List Attribute
 placing_attributes label =
     if is_upright label
     then (codes "x", text_of label.at.x) ∷ (codes "y", text_of (neg_ℤ label.at.y)) ∷ []
-    else (codes "transform", matrix_text (matrix_of label)) ∷ []
+    else (codes "transform", matrix_text (matrix_numbers label)) ∷ []
 
 -- where it stands, its colour where that is not black, and that its spaces count
 abbrev pub label_attributes : Label → List Attribute

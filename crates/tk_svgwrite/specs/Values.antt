@@ -44,6 +44,10 @@ differing (s ∷ optionals) =
     then differing optionals
     else (s.name, s.value) ∷ differing optionals
 
+-- an attribute that is written where its value is not the initial one
+abbrev pub optional_text : List ℕ → List ℕ → List ℕ → List ℕ
+optional_text name initial value = attributes_text (differing (optional name initial value ∷ []))
+
 -- ---- values
 
 -- numbers with one space between any two

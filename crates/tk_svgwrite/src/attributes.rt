@@ -5,7 +5,7 @@ ghost use Rattle.std.specs.List.{AllByRecursion};
 ghost use Rattle.tk_num.specs.Number.{IsScaled};
 ghost use Rattle.tk_num.specs.Text.{text_of};
 ghost use Rattle.tk_item.specs.Lengths.{AreDashes};
-ghost use Rattle.tk_svgwrite.specs.Values.{attribute_text, attributes_text, optional, differing, numbers_text, dash_text};
+ghost use Rattle.tk_svgwrite.specs.Values.{attribute_text, optional_text, dash_text};
 
 use crate::values::{put_number, put_numbers};
 use arrayvec::ArrayVec;
@@ -24,7 +24,8 @@ pub(crate) fn put_attribute(out: &mut Vec<u8>, name: &[u8], value: &[u8]) -> Res
 
 /// Writes an attribute up to its value.
 pub(crate) fn open_attribute(out: &mut Vec<u8>, name: &[u8]) -> Result<(), AllocError>
-    ensures { OnOk result (out.new.items ≡ out.old.items ++ (codes " " ++ name.now ++ codes "=\"")) }
+    ensures { OnOk result
+        (out.new.items ≡ out.old.items ++ (codes " " ++ name.now ++ codes "=\"")) }
 {
     out.push(b' ')?;
     out.extend_from_slice(name)?;
@@ -46,8 +47,8 @@ pub(crate) fn put_optional(
     initial: &[u8],
     value: &[u8],
 ) -> Result<(), AllocError>
-    ensures { OnOk result (out.new.items
-        ≡ out.old.items ++ attributes_text (differing (optional name.now initial.now value.now ∷ []))) }
+    ensures { OnOk result
+        (out.new.items ≡ out.old.items ++ optional_text name.now initial.now value.now) }
 {
     if value == initial {
         Ok(())
@@ -63,8 +64,8 @@ pub(crate) fn put_optional_number(
     initial: &[u8],
     value: Scaled,
 ) -> Result<(), AllocError>
-    ensures text { OnOk result (out.new.items
-        ≡ out.old.items ++ attributes_text (differing (optional name.now initial.now (text_of value) ∷ []))) }
+    ensures text { OnOk result
+        (out.new.items ≡ out.old.items ++ optional_text name.now initial.now (text_of value)) }
     ensures range { OnOk result (IsScaled value) }
 {
     let mut digits: Digits = ArrayVec::new();
@@ -75,7 +76,7 @@ pub(crate) fn put_optional_number(
 /// The same for dashes.
 pub(crate) fn put_dashes(out: &mut Vec<u8>, dashes: &Dashes) -> Result<(), AllocError>
     ensures text { OnOk result (out.new.items ≡ out.old.items
-        ++ attributes_text (differing (optional (codes "stroke-dasharray") (codes "none") (dash_text dashes.now) ∷ []))) }
+        ++ optional_text (codes "stroke-dasharray") (codes "none") (dash_text dashes.now)) }
     ensures range { OnOk result (AllByRecursion IsScaled dashes.now) }
     ensures dashes { OnOk result (AreDashes dashes.now) }
 {

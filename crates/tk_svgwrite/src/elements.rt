@@ -63,9 +63,10 @@ fn put_item(
 /// Writes the element of a path that looks so.
 fn put_path(out: &mut Vec<u8>, segs: &[Seg], presentation: &Presentation) -> Result<(), AllocError>
     requires { IsKept presentation.now }
-    ensures text { OnOk result (out.new.items
-        ≡ out.old.items ++ item_text (Path segs.now presentation.now.fill presentation.now.stroke)) }
-    ensures range { OnOk result (ItemInRange (Path segs.now presentation.now.fill presentation.now.stroke)) }
+    ensures text { OnOk result (out.new.items ≡ out.old.items
+        ++ item_text (Path segs.now presentation.now.fill presentation.now.stroke)) }
+    ensures range { OnOk result
+        (ItemInRange (Path segs.now presentation.now.fill presentation.now.stroke)) }
 {
     out.extend_from_slice(b"<path d=\"")?;
     put_data(out, segs)?;
@@ -75,7 +76,8 @@ fn put_path(out: &mut Vec<u8>, segs: &[Seg], presentation: &Presentation) -> Res
 
 /// Writes how a path is filled.
 pub(crate) fn put_fill(out: &mut Vec<u8>, fill: Option<Fill>) -> Result<(), AllocError>
-    ensures text { OnOk result (out.new.items ≡ out.old.items ++ attributes_text (differing (fill_attributes fill))) }
+    ensures text { OnOk result
+        (out.new.items ≡ out.old.items ++ attributes_text (differing (fill_attributes fill))) }
     ensures range { OnOk result (FillInRange fill) }
 {
     match fill {
@@ -135,7 +137,8 @@ fn put_frame(out: &mut Vec<u8>, frame: Frame) -> Result<(), AllocError>
     requires height { FitsBox (frame_height frame) }
     ensures { OnOk result (out.new.items ≡ out.old.items
         ++ attributes_text ((codes "width", points_text (frame_width frame))
-        ∷ (codes "height", points_text (frame_height frame)) ∷ (codes "viewBox", box_text frame) ∷ [])) }
+        ∷ (codes "height", points_text (frame_height frame))
+        ∷ (codes "viewBox", box_text frame) ∷ [])) }
 {
     put_width(out, frame)?;
     put_height(out, frame)?;
@@ -163,7 +166,8 @@ fn put_height(out: &mut Vec<u8>, frame: Frame) -> Result<(), AllocError>
 /// Writes an attribute that is a length in SVG's points, of which 800 are as long as 803 of TeX's.
 fn put_points(out: &mut Vec<u8>, name: &[u8], length: i64) -> Result<(), AllocError>
     requires { FitsBox length }
-    ensures { OnOk result (out.new.items ≡ out.old.items ++ attribute_text (name.now, points_text length)) }
+    ensures { OnOk result
+        (out.new.items ≡ out.old.items ++ attribute_text (name.now, points_text length)) }
 {
     open_attribute(out, name)?;
     put_number(out, svg_points(length))?;
@@ -184,7 +188,8 @@ fn put_view_box(out: &mut Vec<u8>, frame: Frame) -> Result<(), AllocError>
     requires top { FitsBox frame.top }
     requires width { FitsBox (frame_width frame) }
     requires height { FitsBox (frame_height frame) }
-    ensures { OnOk result (out.new.items ≡ out.old.items ++ attribute_text (codes "viewBox", box_text frame)) }
+    ensures { OnOk result
+        (out.new.items ≡ out.old.items ++ attribute_text (codes "viewBox", box_text frame)) }
 {
     open_attribute(out, b"viewBox")?;
     put_box(out, frame)?;
@@ -207,7 +212,8 @@ fn put_box(out: &mut Vec<u8>, frame: Frame) -> Result<(), AllocError>
 
 fn put_box_corner(out: &mut Vec<u8>, frame: Frame) -> Result<(), AllocError>
     requires { FitsBox frame.top }
-    ensures { OnOk result (out.new.items ≡ out.old.items ++ numbers_text (frame.left ∷ neg_ℤ frame.top ∷ [])) }
+    ensures { OnOk result
+        (out.new.items ≡ out.old.items ++ numbers_text (frame.left ∷ neg_ℤ frame.top ∷ [])) }
 {
     put_pair(out, frame.left, -frame.top)
 }
@@ -228,7 +234,8 @@ fn put_box_height(out: &mut Vec<u8>, frame: Frame) -> Result<(), AllocError>
 
 fn put_family(out: &mut Vec<u8>, family: &Text) -> Result<(), AllocError>
     requires { IsFamily family.now }
-    ensures { OnOk result (out.new.items ≡ out.old.items ++ attribute_text (codes "font-family", family.now)) }
+    ensures { OnOk result
+        (out.new.items ≡ out.old.items ++ attribute_text (codes "font-family", family.now)) }
 {
     open_attribute(out, b"font-family")?;
     for letter in family.as_slice() {
@@ -238,7 +245,8 @@ fn put_family(out: &mut Vec<u8>, family: &Text) -> Result<(), AllocError>
 }
 
 fn put_size(out: &mut Vec<u8>, size: Scaled) -> Result<(), AllocError>
-    ensures text { OnOk result (out.new.items ≡ out.old.items ++ attribute_text (codes "font-size", text_of size)) }
+    ensures text { OnOk result
+        (out.new.items ≡ out.old.items ++ attribute_text (codes "font-size", text_of size)) }
     ensures range { OnOk result (IsScaled size) }
 {
     open_attribute(out, b"font-size")?;

@@ -5,7 +5,7 @@ ghost use Rattle.std.specs.Ordering.{int_eq};
 ghost use Rattle.std.specs.List.{AllByRecursion};
 ghost use Rattle.std.specs.Char.{IsScalar};
 ghost use Rattle.tk_num.specs.Text.{text_of};
-ghost use Rattle.tk_svgwrite.specs.Plain.{label_text, is_upright, matrix_of, placing_attributes};
+ghost use Rattle.tk_svgwrite.specs.Plain.{label_text, is_upright, matrix_numbers, placing_attributes};
 ghost use Rattle.tk_svgwrite.specs.Ranges.{PointInRange, MatrixInRange, LabelInRange};
 ghost use Rattle.tk_svgwrite.specs.Values.{attribute_text, attributes_text, matrix_text, escaped, content_text};
 
@@ -30,7 +30,8 @@ pub(crate) fn put_label(out: &mut Vec<u8>, label: &Label) -> Result<(), AllocErr
 
 /// Writes where a label stands: at a point where it is upright, else by its matrix.
 fn put_placing(out: &mut Vec<u8>, label: &Label) -> Result<(), AllocError>
-    ensures text { OnOk result (out.new.items ≡ out.old.items ++ attributes_text (placing_attributes label.now)) }
+    ensures text { OnOk result
+        (out.new.items ≡ out.old.items ++ attributes_text (placing_attributes label.now)) }
     ensures range { OnOk result (MatrixInRange label.now) }
     ensures place { OnOk result (PointInRange label.now.at) }
 {
@@ -79,7 +80,7 @@ fn put_coordinate(out: &mut Vec<u8>, name: &[u8], sp: i64) -> Result<(), AllocEr
 /// Writes a matrix, with y turned downward.
 fn put_matrix(out: &mut Vec<u8>, label: &Label) -> Result<(), AllocError>
     ensures text { OnOk result (out.new.items ≡ out.old.items
-        ++ attributes_text ((codes "transform", matrix_text (matrix_of label.now)) ∷ [])) }
+        ++ attributes_text ((codes "transform", matrix_text (matrix_numbers label.now)) ∷ [])) }
     ensures place { OnOk result (PointInRange label.now.at) }
 {
     let rest = [

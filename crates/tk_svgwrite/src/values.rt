@@ -98,7 +98,8 @@ fn put_piece(out: &mut Vec<u8>, seg: Seg) -> Result<(), AllocError>
 
 /// Writes a character, and behind it the numbers of a point.
 fn put_point(out: &mut Vec<u8>, front: u8, p: Point) -> Result<(), AllocError>
-    ensures text { OnOk result (out.new.items ≡ out.old.items ++ front ∷ numbers_text (numbers_of_point p)) }
+    ensures text { OnOk result
+        (out.new.items ≡ out.old.items ++ front ∷ numbers_text (numbers_of_point p)) }
     ensures range { OnOk result (PointInRange p) }
 {
     out.extend_from_slice(point_text(front, p).as_slice())
