@@ -50,7 +50,8 @@ impl State {
         list: &[Tok],
     ) -> Result<String, Refusal>
         ensures gives { Gives (λ name. name_read (string_bytes name) self.new) result
-            (keys.expanded_name (given_of evaluated self.old) code at list.now (situation_of self.old)) }
+            (keys.expanded_name (given_of evaluated self.old) code at list.now
+            (situation_of self.old)) }
         ensures pays { Pays self.old self.new }
         ensures used { OnOk result (self.old.units ≤ self.new.units) }
     {
@@ -70,7 +71,8 @@ impl State {
 
     /// A word stands for a text from there on.
     pub(crate) fn set_text(&mut self, word: u32, text: Body) -> Result<(), AllocError>
-        ensures set { OnOk result (situation_of self.new ≡ environment.with_text (situation_of self.old) word text) }
+        ensures set { OnOk result
+            (situation_of self.new ≡ environment.with_text (situation_of self.old) word text) }
         ensures kept { OnOk result (Keeps self.old self.new) }
         ensures made { OnOk result (Makes 1 self.old self.new) }
         ensures used { OnOk result (self.old.units ≤ self.new.units) }
@@ -98,7 +100,8 @@ impl State {
 
     /// A key has an entry from there on.
     pub(crate) fn set_entry(&mut self, path: &str, entry: Entry) -> Result<(), AllocError>
-        ensures set { OnOk result (situation_of self.new ≡ environment.with_key (situation_of self.old)
+        ensures set { OnOk result
+            (situation_of self.new ≡ environment.with_key (situation_of self.old)
             path.now entry) }
         ensures kept { OnOk result (Keeps self.old self.new) }
         ensures made { OnOk result (Makes 1 self.old self.new) }
@@ -123,7 +126,8 @@ impl State {
     /// A list with no macro call left.
     fn expanded_list(&mut self, at: u32, list: &[Tok]) -> Result<Vec<Tok>, Refusal>
         ensures gives { Gives (λ text. stream self.new.units (unread text.items at)) result
-            (full self.old.budget (env_of self.old).macros (stream self.old.units (unread list.now at))) }
+            (full self.old.budget (env_of self.old).macros
+            (stream self.old.units (unread list.now at))) }
         ensures pays { Pays self.old self.new }
         ensures used { OnOk result (self.old.units ≤ self.new.units) }
     {
@@ -140,7 +144,8 @@ impl State {
         value: Option<&[Tok]>,
     ) -> Result<Deed, Refusal>
         ensures gives { Gives (λ _. self.new.graphics) result
-            (graphics_by at evaluated self.old.font key name.now (option_copied value.entry) self.old.graphics) }
+            (graphics_by at evaluated self.old.font key name.now
+            (option_copied value.entry) self.old.graphics) }
         ensures text { IfOk result (λ deed. deed.text ≡ None) }
         ensures kept { self.new ≡ record self.old { graphics = self.new.graphics } }
     {
@@ -166,7 +171,8 @@ impl State {
         value: Option<&[Tok]>,
     ) -> Result<Deed, Refusal>
         ensures gives { Gives (λ deed. deed_of deed self.new) result
-            (keys.set_native (given_of evaluated self.old) at name.now key (option_copied value.entry)
+            (keys.set_native (given_of evaluated self.old) at name.now key
+            (option_copied value.entry)
             (situation_of self.old)) }
         ensures kept { OnOk result (Keeps self.old self.new) }
         ensures made { OnOk result (Makes 0 self.old self.new) }
@@ -191,7 +197,8 @@ impl State {
         value: Option<&[Tok]>,
     ) -> Result<Deed, Refusal>
         ensures gives { Gives (λ deed. deed_of deed self.new) result
-            (keys.plain_run (given_of evaluated self.old) at name.now run.now (option_copied value.entry)
+            (keys.plain_run (given_of evaluated self.old) at name.now run.now
+            (option_copied value.entry)
             (situation_of self.old)) }
         ensures kept { OnOk result (Keeps self.old self.new) }
         ensures made { OnOk result (Makes 1 self.old self.new) }
@@ -215,7 +222,8 @@ impl State {
     /// A choice at a path: the value names a key below it, which runs without a value.
     fn choose(&mut self, at: u32, path: &str, value: &[Tok]) -> Result<Deed, Refusal>
         ensures gives { Gives (λ deed. deed_of deed self.new) result
-            (keys.choose (given_of evaluated self.old) at path.now value.now (situation_of self.old)) }
+            (keys.choose (given_of evaluated self.old) at path.now value.now
+            (situation_of self.old)) }
         ensures kept { OnOk result (Keeps self.old self.new) }
         ensures made { OnOk result (Makes 1 self.old self.new) }
         ensures used { OnOk result (self.old.units ≤ self.new.units) }
@@ -238,7 +246,8 @@ impl State {
         value: Option<&[Tok]>,
     ) -> Result<Deed, Refusal>
         ensures gives { Gives (λ deed. deed_of deed self.new) result
-            (keys.run_key (given_of evaluated self.old) at path.now name.now run.now (option_copied value.entry)
+            (keys.run_key (given_of evaluated self.old) at path.now name.now run.now
+            (option_copied value.entry)
             (situation_of self.old)) }
         ensures kept { OnOk result (Keeps self.old self.new) }
         ensures made { OnOk result (Makes 1 self.old self.new) }
@@ -280,7 +289,8 @@ impl State {
     /// An entry has another stored value from there on.
     fn keep_value(&mut self, path: &str, entry: &Entry, value: Body) -> Result<(), AllocError>
         ensures set { OnOk result (situation_of self.new
-            ≡ environment.with_key (situation_of self.old) path.now (record entry.now { value = Some value })) }
+            ≡ environment.with_key (situation_of self.old) path.now
+            (record entry.now { value = Some value })) }
         ensures kept { OnOk result (Keeps self.old self.new) }
         ensures made { OnOk result (Makes 1 self.old self.new) }
         ensures used { OnOk result (self.old.units ≤ self.new.units) }
@@ -325,7 +335,8 @@ impl State {
         value: Option<&[Tok]>,
     ) -> Result<Option<Deed>, Refusal>
         ensures gives { Gives (λ used. used_of used self.new) result
-            (keys.use_by (given_of evaluated self.old) at path.now entry.now entry.now.run entry.now.value
+            (keys.use_by
+            (given_of evaluated self.old) at path.now entry.now entry.now.run entry.now.value
             (option_copied value.entry) (situation_of self.old)) }
         ensures none { IfOk result (λ used. IfNone used (self.new ≡ self.old)) }
         ensures kept { OnOk result (Keeps self.old self.new) }
@@ -348,7 +359,8 @@ impl State {
         value: Option<&[Tok]>,
     ) -> Result<Deed, Refusal>
         ensures gives { Gives (λ deed. used_of (Some deed) self.new) result
-            (keys.use_by (given_of evaluated self.old) at path.now entry.now (Some run.now) entry.now.value
+            (keys.use_by (given_of evaluated self.old) at path.now entry.now
+            (Some run.now) entry.now.value
             (option_copied value.entry) (situation_of self.old)) }
         ensures kept { OnOk result (Keeps self.old self.new) }
         ensures made { OnOk result (Makes 1 self.old self.new) }
@@ -454,7 +466,8 @@ fn code_text(
     units: &mut Units,
 ) -> Result<Body, Refusal>
     ensures gives { Gives (λ text. paid_by text units.new.used) result
-        (keys.code_text units.old.budget at args body.now (option_copied value.entry) units.old.used) }
+        (keys.code_text units.old.budget at args body.now
+        (option_copied value.entry) units.old.used) }
     ensures budget { units.new.budget ≡ units.old.budget }
     ensures used { OnOk result (units.old.used ≤ units.new.used) }
 {

@@ -39,7 +39,8 @@ fn set_natives(
     natives: &[(&str, Native)],
 ) -> Result<(), AllocError>
     ensures { OnOk result (HasEntries store.old store.new
-        (map (λ row. (environment.tikz_path row.0.now, environment.running (runs.Native row.1))) natives.now)) }
+        (map (λ row.
+        (environment.tikz_path row.0.now, environment.running (runs.Native row.1))) natives.now)) }
 {
     for (name, key) in natives {
         set_below(alloc, store, name, Run::Native(*key))?;
@@ -55,7 +56,11 @@ fn set_styles(
     styles: &[(&str, &str)],
 ) -> Result<(), AllocError>
     ensures { OnOk result (HasEntries store.old store.new
-        (map (λ row. (environment.tikz_path row.0.now, environment.running (environment.style_for also row.1.now)))
+        (map (λ row. (
+          environment.tikz_path row.0.now,
+          environment.running
+              (environment.style_for also row.1.now),
+        ))
         styles.now)) }
 {
     for (name, list) in styles {
@@ -66,7 +71,8 @@ fn set_styles(
 
 /// Sets a key below /tikz that only runs.
 fn set_below(alloc: Global, store: &mut Store, name: &str, run: Run) -> Result<(), AllocError>
-    ensures { OnOk result (SetsKey store.old store.new (environment.tikz_path name.now) (environment.running run)) }
+    ensures { OnOk result
+        (SetsKey store.old store.new (environment.tikz_path name.now) (environment.running run)) }
 {
     let path = full_path(alloc, "/tikz", name)?;
     let entry = Entry {

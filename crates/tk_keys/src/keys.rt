@@ -51,9 +51,11 @@ impl State {
     /// Pays for an entry that was edited: a style that grows costs one unit more than its new code has tokens.
     fn pay_for_edit(&mut self, at: u32, handler: Handler, entry: &Entry) -> Result<(), Fault>
         ensures gives { MatchResult result
-            (λ _. keys.edit_paid (given_of evaluated self.old) at handler entry.now.run self.old.units
+            (λ _. keys.edit_paid
+            (given_of evaluated self.old) at handler entry.now.run self.old.units
             ≡ Ok self.new.units)
-            (λ fault. keys.edit_paid (given_of evaluated self.old) at handler entry.now.run self.old.units
+            (λ fault. keys.edit_paid
+            (given_of evaluated self.old) at handler entry.now.run self.old.units
             ≡ Err fault) }
         ensures pays { self.new ≡ record self.old { units = self.new.units } }
         ensures used { self.old.units ≤ self.new.units }
@@ -76,7 +78,8 @@ impl State {
         dir: &mut Dir,
     ) -> Result<Deed, Refusal>
         ensures gives { Gives (λ deed. effect_of deed self.new dir.new) result
-            (keys.handle (given_of evaluated self.old) at handler path.now (option_copied value.entry) dir.old
+            (keys.handle (given_of evaluated self.old) at handler path.now
+            (option_copied value.entry) dir.old
             (situation_of self.old)) }
         ensures kept { OnOk result (Keeps self.old self.new) }
         ensures made { OnOk result (Makes 1 self.old self.new) }
@@ -97,7 +100,8 @@ impl State {
 
     /// The key that runs for one that isn't known: `.unknown` beside it, or in /handlers.
     fn stand_in(&self, path: &str) -> Result<Option<Runner>, AllocError>
-        ensures { IfOk result (λ found. option_map runner_of found ≡ keys.stand_in (env_of self.now) path.now) }
+        ensures { IfOk result
+            (λ found. option_map runner_of found ≡ keys.stand_in (env_of self.now) path.now) }
     {
         if let Some(beside) = self.unknown_below(parent_of(path))? {
             return Ok(Some(beside));
@@ -154,7 +158,8 @@ impl State {
         dir: &mut Dir,
     ) -> Result<Deed, Refusal>
         ensures gives { Gives (λ deed. effect_of deed self.new dir.new) result
-            (keys.handle_or_unknown (given_of evaluated self.old) at (handlers.handler_of (paths.name_in path.now))
+            (keys.handle_or_unknown (given_of evaluated self.old) at
+            (handlers.handler_of (paths.name_in path.now))
             path.now (option_copied value.entry) dir.old (situation_of self.old)) }
         ensures kept { OnOk result (Keeps self.old self.new) }
         ensures made { OnOk result (Makes 3 self.old self.new) }
@@ -191,7 +196,8 @@ impl State {
     #[tactic(auto, unfolding(crate::specs::Keys::part))]
     pub(crate) fn part(&mut self, part: &Part, dir: &mut Dir) -> Result<Deed, Refusal>
         ensures gives { Gives (λ deed. effect_of deed self.new dir.new) result
-            (keys.part (given_of evaluated self.old) (key_part part.now) dir.old (situation_of self.old)) }
+            (keys.part (given_of evaluated self.old) (key_part part.now) dir.old
+            (situation_of self.old)) }
         ensures kept { OnOk result (Keeps self.old self.new) }
         ensures made { OnOk result (Makes 3 self.old self.new) }
         ensures used { OnOk result (self.old.units ≤ self.new.units) }
@@ -206,7 +212,8 @@ impl State {
 
 /// The full path of a name with a default path, in the memory of the name.
 pub(crate) fn path_from(dir: &Dir, name: String) -> Result<String, AllocError>
-    ensures { IfOk result (λ path. string_bytes path ≡ paths.full_path dir.now (string_bytes name)) }
+    ensures { IfOk result
+        (λ path. string_bytes path ≡ paths.full_path dir.now (string_bytes name)) }
 {
     if name.starts_with('/') {
         return Ok(name);

@@ -31,7 +31,8 @@ impl State {
         at: u32,
         steps: &mut Steps<L>,
     ) -> Result<Dir, Refusal>
-        ensures gives { (ev : Evaluation) → IsEvaluation ev → Gives (λ last. ending_of self.new last) result
+        ensures gives { (ev : Evaluation) → IsEvaluation ev → Gives
+            (λ last. ending_of self.new last) result
             (runs (given_of ev self.old)
             (A_key_list (situation_of self.old) (codes "/tikz") (texts.tokens_of at text.now) at)) }
         ensures kept { OnOk result (Keeps self.old self.new) }

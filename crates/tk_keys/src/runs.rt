@@ -41,11 +41,13 @@ impl State {
         at: u32,
         steps: &mut Steps<L>,
     ) -> Result<Dir, Refusal>
-        ensures gives { (ev : Evaluation) → IsEvaluation ev → Gives (λ last. ending_of self.new last) result
+        ensures gives { (ev : Evaluation) → IsEvaluation ev → Gives
+            (λ last. ending_of self.new last) result
             (runs (given_of ev self.old) (A_key_list (situation_of self.old) dir list.now at)) }
         ensures kept { OnOk result (Keeps self.old self.new) }
         ensures used { OnOk result (self.old.units ≤ self.new.units) }
-        ensures made { OnOk result (Makes (3 * (length (parts_of list.now) + (self.new.units - self.old.units)))
+        ensures made { OnOk result
+            (Makes (3 * (length (parts_of list.now) + (self.new.units - self.old.units)))
             self.old self.new) }
         ensures low { steps.old ≤ steps.new }
         ensures high { steps.new ≤ most_undone steps.old self.old (length (parts_of list.now)) }
@@ -68,11 +70,14 @@ impl State {
         at: u32,
         steps: &mut Steps<L>,
     ) -> Result<Dir, Refusal>
-        ensures gives { (ev : Evaluation) → IsEvaluation ev → Gives (λ last. ending_of self.new last) result
-            (runs (given_of ev self.old) (Some_settings (standing_of self.old dir (unread list.now at)))) }
+        ensures gives { (ev : Evaluation) → IsEvaluation ev → Gives
+            (λ last. ending_of self.new last) result
+            (runs (given_of ev self.old)
+            (Some_settings (standing_of self.old dir (unread list.now at)))) }
         ensures kept { OnOk result (Keeps self.old self.new) }
         ensures used { OnOk result (self.old.units ≤ self.new.units) }
-        ensures made { OnOk result (Makes (3 * (length list.now + (self.new.units - self.old.units)))
+        ensures made { OnOk result
+            (Makes (3 * (length list.now + (self.new.units - self.old.units)))
             self.old self.new) }
         ensures low { steps.old ≤ steps.new }
         ensures high { steps.new ≤ most_undone steps.old self.old (length list.now) }
@@ -94,13 +99,15 @@ impl State {
         input: &mut Input,
         steps: &mut Steps<L>,
     ) -> Result<bool, Refusal>
-        ensures gives { (ev : Evaluation) → IsEvaluation ev → Gives (λ set. set_of set self.new input.new) result
+        ensures gives { (ev : Evaluation) → IsEvaluation ev → Gives
+            (λ set. set_of set self.new input.new) result
             (one_setting (given_of ev self.old) first (situation_of self.old) input.old) }
         ensures state { result ≡ Ok false → self.new ≡ self.old }
         ensures list { result ≡ Ok false → input.new ≡ input.old }
         ensures kept { OnOk result (Keeps self.old self.new) }
         ensures used { OnOk result (self.old.units ≤ self.new.units) }
-        ensures made { OnOk result (self.new.levels.top.settings + 3 * (self.old.units + length input.new.rest)
+        ensures made { OnOk result
+            (self.new.levels.top.settings + 3 * (self.old.units + length input.new.rest)
             ≤ self.old.levels.top.settings + 3 * (self.new.units + length input.old.rest + 1)) }
         ensures low { steps.old ≤ steps.new }
         ensures high { steps.new ≤ most_undone steps.old self.old (length input.old.rest + 1) }
@@ -126,7 +133,8 @@ impl State {
         steps: &mut Steps<L>,
     ) -> Result<(), Refusal>
         ensures gives { Gives (λ _. ending_of self.new dir.new) result
-            (runs (given_of evaluated self.old) (A_key_list (situation_of self.old) dir.old list.now at)) }
+            (runs (given_of evaluated self.old)
+            (A_key_list (situation_of self.old) dir.old list.now at)) }
         ensures kept { OnOk result (Keeps self.old self.new) }
         ensures used { OnOk result (self.old.units ≤ self.new.units) }
         ensures low { steps.old ≤ steps.new }
@@ -152,7 +160,8 @@ impl State {
         steps: &mut Steps<L>,
     ) -> Result<(), Refusal>
         ensures gives { Gives (λ _. ending_of self.new dir.new) result
-            (settings.parts (given_of evaluated self.old) (runs (given_of evaluated self.old)) (parts_of list.now)
+            (settings.parts (given_of evaluated self.old) (runs (given_of evaluated self.old))
+            (parts_of list.now)
             dir.old (situation_of self.old)) }
         ensures kept { OnOk result (Keeps self.old self.new) }
         ensures used { OnOk result (self.old.units ≤ self.new.units) }
@@ -177,7 +186,8 @@ impl State {
         steps: &mut Steps<L>,
     ) -> Result<(), Refusal>
         ensures gives { Gives (λ _. ending_of self.new dir.new) result
-            (settings.part_run (given_of evaluated self.old) (runs (given_of evaluated self.old)) (key_part part.now)
+            (settings.part_run (given_of evaluated self.old) (runs (given_of evaluated self.old))
+            (key_part part.now)
             dir.old (situation_of self.old)) }
         ensures kept { OnOk result (Keeps self.old self.new) }
         ensures used { OnOk result (self.old.units ≤ self.new.units) }
@@ -206,7 +216,8 @@ impl State {
         steps: &mut Steps<L>,
     ) -> Result<(), Refusal>
         ensures gives { Gives (λ _. ending_of self.new dir.new) result
-            (runs (given_of evaluated self.old) (Some_settings (standing_of self.old dir.old (unread text end)))) }
+            (runs (given_of evaluated self.old)
+            (Some_settings (standing_of self.old dir.old (unread text end)))) }
         ensures kept { OnOk result (Keeps self.old self.new) }
         ensures used { OnOk result (self.old.units ≤ self.new.units) }
         ensures low { steps.old ≤ steps.new }
@@ -231,7 +242,8 @@ impl State {
         steps: &mut Steps<L>,
     ) -> Result<(), Refusal>
         ensures gives { Gives (λ _. standing_of self.new dir.new input.new) result
-            (settings.set_or_group (given_of evaluated self.old) (runs (given_of evaluated self.old))
+            (settings.set_or_group (given_of evaluated self.old)
+            (runs (given_of evaluated self.old))
             (setting_of self.old.names first.kind) first (standing_of self.old dir.old input.old)) }
         ensures kept { OnOk result (Keeps self.old self.new) }
         ensures used { OnOk result (self.old.units ≤ self.new.units) }
@@ -261,7 +273,8 @@ impl State {
         steps: &mut Steps<L>,
     ) -> Result<(), Refusal>
         ensures gives { Gives (λ _. standing_of self.new dir.new input.new) result
-            (settings.set (given_of evaluated self.old) (runs (given_of evaluated self.old)) setting at
+            (settings.set (given_of evaluated self.old)
+            (runs (given_of evaluated self.old)) setting at
             (standing_of self.old dir.old input.old)) }
         ensures kept { OnOk result (Keeps self.old self.new) }
         ensures used { OnOk result (self.old.units ≤ self.new.units) }
@@ -295,7 +308,8 @@ impl State {
         steps: &mut Steps<L>,
     ) -> Result<(), Refusal>
         ensures gives { Gives (λ _. standing_of self.new dir.new input.new) result
-            (settings.set_keys (given_of evaluated self.old) (runs (given_of evaluated self.old)) origin at
+            (settings.set_keys (given_of evaluated self.old)
+            (runs (given_of evaluated self.old)) origin at
             (standing_of self.old dir.old input.old)) }
         ensures kept { OnOk result (Keeps self.old self.new) }
         ensures used { OnOk result (self.old.units ≤ self.new.units) }
@@ -325,7 +339,8 @@ impl State {
         steps: &mut Steps<L>,
     ) -> Result<(), Refusal>
         ensures gives { (rest : Unread) → Gives (λ _. standing_of self.new dir.new rest) result
-            (keys_from (given_of evaluated self.old) origin at list.now (standing_of self.old dir.old rest)) }
+            (keys_from (given_of evaluated self.old) origin at list.now
+            (standing_of self.old dir.old rest)) }
         ensures kept { OnOk result (Keeps self.old self.new) }
         ensures used { OnOk result (self.old.units ≤ self.new.units) }
         ensures low { steps.old ≤ steps.new }
@@ -378,7 +393,8 @@ impl State {
         steps: &mut Steps<L>,
     ) -> Result<(), Refusal>
         ensures gives { (rest : Unread) → Gives (λ _. standing_of self.new dir.now rest) result
-            (contents_run (given_of evaluated self.old) at contents.items (standing_of self.old dir.now rest)) }
+            (contents_run (given_of evaluated self.old) at contents.items
+            (standing_of self.old dir.now rest)) }
         ensures pays { OnOk result (Pays self.old self.new) }
         ensures used { OnOk result (self.old.units ≤ self.new.units) }
         ensures low { steps.old ≤ steps.new }

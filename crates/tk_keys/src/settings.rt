@@ -62,7 +62,8 @@ impl State {
     /// An argument that is the name of a key, as its full path.
     fn key_argument(&mut self, at: u32, dir: &Dir, input: &mut Input) -> Result<String, Refusal>
         ensures gives { Gives (λ path. key_of (string_bytes path) self.new input.new) result
-            (settings.key_argument (given_of evaluated self.old) at dir.now (situation_of self.old) input.old) }
+            (settings.key_argument (given_of evaluated self.old) at dir.now
+            (situation_of self.old) input.old) }
         ensures pays { Pays self.old self.new }
         ensures used { OnOk result (self.old.units ≤ self.new.units) }
         ensures end { OnOk result (input.new.end ≡ input.old.end) }
@@ -77,7 +78,8 @@ impl State {
     /// `\pgfkeyssetvalue`: a value is stored.
     pub(crate) fn set_value(&mut self, at: u32, dir: &Dir, input: &mut Input) -> Result<(), Refusal>
         ensures gives { Gives (λ _. behind_set self.new input.new) result
-            (settings.set_value (given_of evaluated self.old) at dir.now (situation_of self.old) input.old) }
+            (settings.set_value (given_of evaluated self.old) at dir.now
+            (situation_of self.old) input.old) }
         ensures kept { OnOk result (Keeps self.old self.new) }
         ensures made { OnOk result (Makes 1 self.old self.new) }
         ensures used { OnOk result (self.old.units ≤ self.new.units) }
@@ -106,7 +108,8 @@ impl State {
     /// The entry at a path, with that value.
     fn with_value(&self, path: &str, value: Body) -> Result<Entry, AllocError>
         ensures { IfOk result (λ entry. entry
-            ≡ record (unwrap_or (map.get (env_of self.now).keys path.now) entries.no_entry) { value = Some value }) }
+            ≡ record (unwrap_or
+            (map.get (env_of self.now).keys path.now) entries.no_entry) { value = Some value }) }
     {
         let old = match self.store.get_key(path) {
             Some(old) => old.copy()?,
@@ -121,7 +124,8 @@ impl State {
     /// `\pgfkeysgetvalue`: a word stands for the value that is stored.
     pub(crate) fn get_value(&mut self, at: u32, dir: &Dir, input: &mut Input) -> Result<(), Refusal>
         ensures gives { Gives (λ _. behind_set self.new input.new) result
-            (settings.get_value (given_of evaluated self.old) at dir.now (situation_of self.old) input.old) }
+            (settings.get_value (given_of evaluated self.old) at dir.now
+            (situation_of self.old) input.old) }
         ensures kept { OnOk result (Keeps self.old self.new) }
         ensures made { OnOk result (Makes 1 self.old self.new) }
         ensures used { OnOk result (self.old.units ≤ self.new.units) }
@@ -155,7 +159,8 @@ impl State {
     /// The value of an expression, once it is expanded.
     fn expression_value(&mut self, at: u32, text: Vec<Tok>) -> Result<Scaled, Refusal>
         ensures gives { Gives (λ number. value_behind number self.new.units) result
-            (settings.expression_value (given_of evaluated self.old) at text.items (situation_of self.old)) }
+            (settings.expression_value (given_of evaluated self.old) at text.items
+            (situation_of self.old)) }
         ensures pays { Pays self.old self.new }
         ensures used { OnOk result (self.old.units ≤ self.new.units) }
     {
@@ -172,8 +177,10 @@ impl State {
     /// The two arguments of a setting that gives a word a number: the word, and the value of an expression.
     fn word_and_number(&mut self, at: u32, input: &mut Input) -> Result<(u32, Scaled), Refusal>
         ensures gives { (written : ℤ → List ℕ) → Gives
-            (λ found. number_set written at found.0 found.1 (situation_of self.new) input.new) result
-            (settings.set_number (given_of evaluated self.old) written at (situation_of self.old) input.old) }
+            (λ found. number_set written at found.0 found.1
+            (situation_of self.new) input.new) result
+            (settings.set_number (given_of evaluated self.old) written at
+            (situation_of self.old) input.old) }
         ensures pays { Pays self.old self.new }
         ensures used { OnOk result (self.old.units ≤ self.new.units) }
         ensures end { OnOk result (input.new.end ≡ input.old.end) }
@@ -189,7 +196,8 @@ impl State {
     /// `\pgfmathsetmacro`: a word stands for the text of an expression's value, as TeX prints it.
     pub(crate) fn set_number(&mut self, at: u32, input: &mut Input) -> Result<(), Refusal>
         ensures gives { Gives (λ _. behind_set self.new input.new) result
-            (settings.set_number (given_of evaluated self.old) pointed_text at (situation_of self.old) input.old) }
+            (settings.set_number (given_of evaluated self.old) pointed_text at
+            (situation_of self.old) input.old) }
         ensures kept { OnOk result (Keeps self.old self.new) }
         ensures made { OnOk result (Makes 1 self.old self.new) }
         ensures used { OnOk result (self.old.units ≤ self.new.units) }
@@ -205,7 +213,8 @@ impl State {
     /// `\pgfmathtruncatemacro`: a word stands for the text of the whole part of an expression's value.
     pub(crate) fn set_whole(&mut self, at: u32, input: &mut Input) -> Result<(), Refusal>
         ensures gives { Gives (λ _. behind_set self.new input.new) result
-            (settings.set_number (given_of evaluated self.old) whole_text at (situation_of self.old) input.old) }
+            (settings.set_number (given_of evaluated self.old) whole_text at
+            (situation_of self.old) input.old) }
         ensures kept { OnOk result (Keeps self.old self.new) }
         ensures made { OnOk result (Makes 1 self.old self.new) }
         ensures used { OnOk result (self.old.units ≤ self.new.units) }

@@ -187,7 +187,8 @@ impl State {
         ensures none { IfOk result (λ tok. IfNone tok (input.new.rest ≡ [])) }
         ensures end { OnOk result (input.new.end ≡ input.old.end) }
         ensures used { OnOk result (self.old.units ≤ self.new.units) }
-        ensures work { IfOk result (λ tok. (self.new.budget - self.new.units) + length input.new.rest
+        ensures work { IfOk result
+            (λ tok. (self.new.budget - self.new.units) + length input.new.rest
             + length (option_to_list tok)
             ≤ (self.old.budget - self.old.units) + length input.old.rest) }
     {
@@ -205,8 +206,10 @@ impl State {
 
     /// A list with no macro call left. Where nothing in it calls, it is the list itself.
     pub fn expand(&mut self, list: Vec<Tok>) -> Result<Vec<Tok>, Refusal>
-        ensures gives { (end : ℕ) → Gives (λ text. stream_of self.new (unread text.items end)) result
-            (full self.old.budget (env_of self.old).macros (stream_of self.old (unread list.items end))) }
+        ensures gives { (end : ℕ) → Gives
+            (λ text. stream_of self.new (unread text.items end)) result
+            (full self.old.budget (env_of self.old).macros
+            (stream_of self.old (unread list.items end))) }
         ensures pays { Pays self.old self.new }
     {
         expand_all(self.alloc, list, &self.store, &mut self.units)

@@ -174,7 +174,8 @@ impl CurrentPath {
         rx: Scaled,
         ry: Scaled,
     ) -> Result<Result<(), AffFault>, AllocError>
-        ensures { IfOk result (λ done. Draws self.new done (spec.circled origin.now matrix rx ry self.old)) }
+        ensures { IfOk result
+            (λ done. Draws self.new done (spec.circled origin.now matrix rx ry self.old)) }
     {
         let centre = self.current_point(origin);
         self.ground(origin);
@@ -194,7 +195,8 @@ impl CurrentPath {
         matrix: Matrix,
         to: &Goal,
     ) -> Result<Result<(), AffFault>, AllocError>
-        ensures { IfOk result (λ done. Draws self.new done (spec.boxed origin.now matrix to.now self.old)) }
+        ensures { IfOk result
+            (λ done. Draws self.new done (spec.boxed origin.now matrix to.now self.old)) }
     {
         let corner = self.current_point(origin);
         self.move_to(origin, to);
@@ -215,7 +217,8 @@ impl CurrentPath {
         rx: Scaled,
         ry: Scaled,
     ) -> Result<Result<(), AffFault>, AllocError>
-        ensures { IfOk result (λ done. Draws self.new done (spec.arced origin.now matrix sweep.now rx ry self.old)) }
+        ensures { IfOk result
+            (λ done. Draws self.new done (spec.arced origin.now matrix sweep.now rx ry self.old)) }
     {
         if sweep.from == sweep.to {
             self.ground(origin);
@@ -237,7 +240,8 @@ impl CurrentPath {
     ) -> Result<Result<(), AffFault>, AllocError>
         requires { BeginsWithMove self.old.segs }
         ensures { IfOk result (λ done. Draws self.new done
-            (arc_pieces matrix (spec.current_point origin.now self.old) sweep.now.from sweep.now.to rx ry
+            (arc_pieces matrix
+            (spec.current_point origin.now self.old) sweep.now.from sweep.now.to rx ry
             followed_by (λ segs. Ok (spec.along_curves origin.now segs self.old)))) }
     {
         let count = self.segs.as_slice().len();

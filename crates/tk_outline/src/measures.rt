@@ -97,7 +97,8 @@ impl Measures {
     /// The lengths of the radii.
     pub fn radii_lengths(&self, at: u32) -> Result<(Scaled, Scaled), Fault>
         ensures { result ≡ spec.length_across self.now at self.now.radii.x
-            followed_by (λ rx. spec.length_upward self.now at self.now.radii.y followed_by (λ ry. Ok (rx, ry))) }
+            followed_by (λ rx. spec.length_upward self.now at self.now.radii.y followed_by
+            (λ ry. Ok (rx, ry))) }
     {
         let rx = self.length_across(self.radii.x, at)?;
         let ry = self.length_upward(self.radii.y, at)?;
@@ -108,7 +109,8 @@ impl Measures {
     pub fn mesh(&self, at: u32) -> Result<Mesh, Fault>
         ensures { result ≡ spec.length_across self.now at self.now.xstep
             followed_by (λ xstep. spec.length_upward self.now at self.now.ystep
-            followed_by (λ ystep. Ok (record { matrix = self.now.matrix; xstep = xstep; ystep = ystep }))) }
+            followed_by (λ ystep. Ok
+            (record { matrix = self.now.matrix; xstep = xstep; ystep = ystep }))) }
     {
         let xstep = self.length_across(self.xstep, at)?;
         let ystep = self.length_upward(self.ystep, at)?;
@@ -122,7 +124,8 @@ impl Measures {
     /// The angles of an arc by keys: two of them tell the third.
     #[tactic(auto, unfolding(crate::specs::Measures::sweep_of))]
     pub fn sweep(&self, at: u32) -> Result<Sweep, Fault>
-        ensures { result ≡ spec.sweep_of at self.now.start_angle self.now.end_angle self.now.delta_angle }
+        ensures { result
+            ≡ spec.sweep_of at self.now.start_angle self.now.end_angle self.now.delta_angle }
     {
         match (self.start_angle, self.end_angle, self.delta_angle) {
             (Some(from), Some(to), _) => Ok(Sweep { from, to }),
@@ -153,7 +156,8 @@ pub fn radii_in(text: &[Tok], font: &FontUnits, at: u32) -> Result<Radii, Fault>
 /// The radii of a text for each.
 fn two_radii(first: &[Tok], second: &[Tok], font: &FontUnits, at: u32) -> Result<Radii, Fault>
     ensures { result ≡ evaluated font.now at first.now
-        followed_by (λ x. evaluated font.now at second.now followed_by (λ y. Ok (record { x = x; y = y }))) }
+        followed_by (λ x. evaluated font.now at second.now followed_by
+        (λ y. Ok (record { x = x; y = y }))) }
 {
     let x = eval(first, *font, at)?;
     let y = eval(second, *font, at)?;
@@ -162,7 +166,8 @@ fn two_radii(first: &[Tok], second: &[Tok], font: &FontUnits, at: u32) -> Result
 
 /// The radii of a text for both.
 fn one_radius(text: &[Tok], font: &FontUnits, at: u32) -> Result<Radii, Fault>
-    ensures { result ≡ evaluated font.now at text.now followed_by (λ r. Ok (record { x = r; y = r })) }
+    ensures { result ≡ evaluated font.now at text.now followed_by
+        (λ r. Ok (record { x = r; y = r })) }
 {
     let radius = &eval(text, *font, at)?;
     Ok(Radii {
@@ -186,7 +191,8 @@ pub fn arc_in(text: &[Tok], font: &FontUnits, at: u32) -> Result<ArcText, Fault>
 /// What stands before the first `:` of a text, and behind it.
 fn before_colon(text: &[Tok], at: u32) -> Result<(&[Tok], &[Tok]), Fault>
     ensures { MatchResult result
-        (λ parts. or_fault (spec_before_char colon text.now) PathSyntax at ≡ Ok (cut parts.0.now parts.1.now))
+        (λ parts. or_fault (spec_before_char colon text.now) PathSyntax at
+        ≡ Ok (cut parts.0.now parts.1.now))
         (λ fault. or_fault (spec_before_char colon text.now) PathSyntax at ≡ Err fault) }
 {
     before_char(text, ':').ok_or(Fault::new(Code::PathSyntax, at))

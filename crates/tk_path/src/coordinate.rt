@@ -70,7 +70,8 @@ impl Drawer {
     ) -> Result<Written, Refusal>
         ensures gives { (path : ACurrentPath)
             → Gives (λ written. reached_at (written_of written) self.new path input.new) result
-            (spec.coordinate_from (given_to self.old) (lookahead_of first self.old path input.old)) }
+            (spec.coordinate_from (given_to self.old)
+            (lookahead_of first self.old path input.old)) }
         ensures pays { OnOk result (OnlyPays self.old self.new) }
     {
         if is_there(first, '+') {
@@ -98,8 +99,10 @@ impl Drawer {
 
     /// A token that was taken, or the one behind the Spaces that it begins.
     fn past_spaces(&mut self, input: &mut Input, first: Option<Tok>) -> Result<Option<Tok>, Refusal>
-        ensures gives { (path : ACurrentPath) → Gives (λ tok. lookahead_of tok self.new path input.new) result
-            (spec.past_spaces_from (given_to self.old) (lookahead_of first self.old path input.old)) }
+        ensures gives { (path : ACurrentPath) → Gives
+            (λ tok. lookahead_of tok self.new path input.new) result
+            (spec.past_spaces_from (given_to self.old)
+            (lookahead_of first self.old path input.old)) }
         ensures pays { OnOk result (OnlyPays self.old self.new) }
     {
         match first {
@@ -163,7 +166,8 @@ impl Drawer {
     /// there is one.
     #[tactic(auto, unfolding(crate::specs::Coordinates::point_of_target))]
     fn point_of_text(&self, text: &[Tok], from: Option<Point>, at: u32) -> Result<Point, Refusal>
-        ensures { Gives (λ point. point) result (spec.point_of_target (target_of evaluated self.now.state.font
+        ensures { Gives
+            (λ point. point) result (spec.point_of_target (target_of evaluated self.now.state.font
             self.now.state.graphics.look self.now.state.graphics.matrix at from text.now)) }
     {
         // The checker has a bug at a `?` here: it isn't told in which modules `NodeRecord` stands.

@@ -46,7 +46,8 @@ impl Drawer {
             (ahead_of (given_of ev self.old.state) (configuration_of self.old path input.old)) }
         ensures pays { OnlyPays self.old self.new }
         ensures falls { IfOk result (λ tok.
-            work_left self.new (with_taken tok input.new) ≤ work_left self.old (length input.old.rest)) }
+            work_left self.new (with_taken tok input.new)
+            ≤ work_left self.old (length input.old.rest)) }
     {
         self.state.next_solid(input)
     }
@@ -54,7 +55,8 @@ impl Drawer {
     /// Takes the next token.
     #[tactic(auto, unfolding(crate::specs::Configurations::token_ahead))]
     pub(crate) fn token(&mut self, input: &mut Input) -> Result<Option<Tok>, Refusal>
-        ensures gives { (path : ACurrentPath) → Gives (λ tok. lookahead_of tok self.new path input.new) result
+        ensures gives { (path : ACurrentPath) → Gives
+            (λ tok. lookahead_of tok self.new path input.new) result
             (token_ahead (given_to self.old) (configuration_of self.old path input.old)) }
         ensures pays { OnlyPays self.old self.new }
     {
@@ -84,7 +86,8 @@ impl Drawer {
 fn push_path(items: &mut Items, segs: Segs, look: &Look) -> Result<(), AllocError>
     requires { BeginsWithMove segs }
     ensures items { OnOk result (items.new ≡ items.old ++ pictures.path_items look.now segs) }
-    ensures fits { OnOk result (AllByRecursion FitsItem items.old → AllByRecursion FitsItem items.new) }
+    ensures fits { OnOk result
+        (AllByRecursion FitsItem items.old → AllByRecursion FitsItem items.new) }
 {
     if !(look.fill_on || look.draw_on) {
         return Ok(());

@@ -69,11 +69,13 @@ impl Drawer {
     ) -> Result<(), Refusal>
         ensures gives { (ev : Evaluation) → IsEvaluation ev → (path : ACurrentPath) (rest : Unread)
             → Gives (λ _. configuration_of self.new path rest) result
-            (keys.with_keys (given_of ev self.old.state) at list.now (configuration_of self.old path rest)) }
+            (keys.with_keys (given_of ev self.old.state) at list.now
+            (configuration_of self.old path rest)) }
         ensures kept { OnOk result (KeepsDrawn self.old self.new) }
         ensures used { OnOk result (self.old.state.units ≤ self.new.state.units) }
         ensures low { steps.old ≤ steps.new }
-        ensures high { steps.new ≤ most_undone steps.old self.old.state (length (parts_of list.now)) }
+        ensures high { steps.new
+            ≤ most_undone steps.old self.old.state (length (parts_of list.now)) }
         ensures most { OnOk result (most_undone steps.new self.new.state 0
             ≤ most_undone steps.old self.old.state (length (parts_of list.now))) }
     {
@@ -97,9 +99,12 @@ impl Drawer {
         ensures kept { OnOk result (KeepsDrawn self.old self.new) }
         ensures used { OnOk result (self.old.state.units ≤ self.new.state.units) }
         ensures low { steps.old ≤ steps.new }
-        ensures high { steps.new ≤ most_undone steps.old self.old.state (length (parts_of (texts.tokens_of at text.now))) }
+        ensures high { steps.new
+            ≤ most_undone steps.old self.old.state
+            (length (parts_of (texts.tokens_of at text.now))) }
         ensures most { OnOk result (most_undone steps.new self.new.state 0
-            ≤ most_undone steps.old self.old.state (length (parts_of (texts.tokens_of at text.now)))) }
+            ≤ most_undone steps.old self.old.state
+            (length (parts_of (texts.tokens_of at text.now)))) }
     {
         self.state.run_written(text, at, steps)?;
         Ok(())
@@ -125,7 +130,8 @@ impl Drawer {
     ) -> Result<(), Refusal>
         ensures gives { (ev : Evaluation) → IsEvaluation ev → (path : ACurrentPath) (rest : Unread)
             → Gives (λ _. configuration_of self.new path rest) result
-            (keys.with_style (given_of ev self.old.state) at (style_name style) (configuration_of self.old path rest)) }
+            (keys.with_style (given_of ev self.old.state) at (style_name style)
+            (configuration_of self.old path rest)) }
         ensures kept { OnOk result (KeepsDrawn self.old self.new) }
         ensures used { OnOk result (self.old.state.units ≤ self.new.state.units) }
         ensures low { steps.old ≤ steps.new }
@@ -149,7 +155,8 @@ impl Drawer {
     ) -> Result<(), Refusal>
         ensures gives { (ev : Evaluation) → IsEvaluation ev → (path : ACurrentPath)
             → Gives (λ _. configuration_of self.new path input.new) result
-            (keys.options (given_of ev self.old.state) at (configuration_of self.old path input.old)) }
+            (keys.options (given_of ev self.old.state) at
+            (configuration_of self.old path input.old)) }
         ensures kept { OnOk result (KeepsDrawn self.old self.new) }
         ensures high { steps.new ≤ most_steps steps.old self.old (length input.old.rest) }
         ensures most { OnOk result (most_steps steps.new self.new (length input.new.rest)
@@ -168,7 +175,8 @@ impl Drawer {
     ) -> Result<(), Refusal>
         ensures gives { (ev : Evaluation) → IsEvaluation ev → (path : ACurrentPath)
             → Gives (λ _. configuration_of self.new path input.new) result
-            (keys.options_ahead (given_of ev self.old.state) (configuration_of self.old path input.old)) }
+            (keys.options_ahead (given_of ev self.old.state)
+            (configuration_of self.old path input.old)) }
         ensures kept { OnOk result (KeepsDrawn self.old self.new) }
         ensures high { steps.new ≤ most_steps steps.old self.old (length input.old.rest) }
         ensures most { OnOk result (most_steps steps.new self.new (length input.new.rest)
@@ -188,7 +196,8 @@ impl Drawer {
     ) -> Result<(), Refusal>
         ensures gives { (ev : Evaluation) → IsEvaluation ev → (path : ACurrentPath)
             → Gives (λ _. configuration_of self.new path input.new) result
-            (keys.options_from (given_of ev self.old.state) (lookahead_of first self.old path input.old)) }
+            (keys.options_from (given_of ev self.old.state)
+            (lookahead_of first self.old path input.old)) }
         ensures kept { OnOk result (KeepsDrawn self.old self.new) }
         ensures high { steps.new ≤ most_steps steps.old self.old (with_taken first input.old) }
         ensures most { OnOk result (most_steps steps.new self.new (length input.new.rest)
@@ -203,7 +212,8 @@ impl Drawer {
 
     /// Puts a token that was taken in front again.
     pub(crate) fn put_back(&self, input: &mut Input, first: Option<Tok>) -> Result<(), AllocError>
-        ensures gives { (path : ACurrentPath) → OnOk result (configuration_of self.now path input.new
+        ensures gives { (path : ACurrentPath)
+            → OnOk result (configuration_of self.now path input.new
             ≡ keys.put_back first (configuration_of self.now path input.old)) }
         ensures list { OnOk result (length input.new.rest ≡ with_taken first input.old) }
     {

@@ -10,7 +10,8 @@ ghost use Rattle.tk_path.specs.Words.{are_told_by_two_letters, operation_words, 
 
 /// The operations of a path are what one step of their definition says.
 pub fn operations_are_their_step()
-    ensures { (given : Given) (s : Stretch) → operations given s ≡ operations_step given (operations given) s }
+    ensures { (given : Given) (s : Stretch) → operations given s
+        ≡ operations_step given (operations given) s }
 {}
 
 /// They are the same whatever the answer is where no work is left: no bound on how deep the steps go is met.

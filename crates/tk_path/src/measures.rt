@@ -24,7 +24,8 @@ impl Drawer {
         first: Option<Tok>,
         steps: &mut Steps<L>,
     ) -> Result<Measures, Refusal>
-        ensures gives { (path : ACurrentPath) → Gives (λ measures. reached_at measures self.new path input.new) result
+        ensures gives { (path : ACurrentPath) → Gives
+            (λ measures. reached_at measures self.new path input.new) result
             (spec.measures_from (given_to self.old) (lookahead_of first self.old path input.old)) }
         ensures kept { OnOk result (KeepsDrawn self.old self.new) }
         ensures high { steps.new ≤ most_steps steps.old self.old (with_taken first input.old) }
@@ -47,8 +48,10 @@ impl Drawer {
         at: u32,
         steps: &mut Steps<L>,
     ) -> Result<Measures, Refusal>
-        ensures gives { (path : ACurrentPath) → Gives (λ measures. reached_at measures self.new path input.new) result
-            (spec.inner_measures (given_to self.old) at (configuration_of self.old path input.old)) }
+        ensures gives { (path : ACurrentPath) → Gives
+            (λ measures. reached_at measures self.new path input.new) result
+            (spec.inner_measures (given_to self.old) at
+            (configuration_of self.old path input.old)) }
         ensures kept { OnOk result (KeepsDrawn self.old self.new) }
         ensures high { steps.new ≤ most_steps steps.old self.old (length input.old.rest) }
         ensures most { OnOk result (most_steps steps.new self.new (length input.new.rest)

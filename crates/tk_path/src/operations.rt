@@ -56,7 +56,8 @@ impl Drawer {
         steps: &mut Steps<L>,
     ) -> Result<(), Refusal>
         ensures gives { Gives (λ _. configuration_of self.new path.new input.new) result
-            (spec.operation (given_to self.old) word at (configuration_of self.old path.old input.old)) }
+            (spec.operation (given_to self.old) word at
+            (configuration_of self.old path.old input.old)) }
         ensures kept { OnOk result (KeepsDrawn self.old self.new) }
         ensures high { steps.new ≤ most_steps steps.old self.old (length input.old.rest) }
         ensures most { OnOk result (most_steps steps.new self.new (length input.new.rest)
@@ -104,7 +105,8 @@ impl Drawer {
     #[tactic(auto, unfolding(crate::specs::Operations::goes))]
     fn go(&mut self, input: &mut Input, path: &mut CurrentPath, way: Way) -> Result<(), Refusal>
         ensures gives { Gives (λ _. configuration_of self.new path.new input.new) result
-            (spec.goes (given_to self.old) (way_of way) (configuration_of self.old path.old input.old)) }
+            (spec.goes (given_to self.old) (way_of way)
+            (configuration_of self.old path.old input.old)) }
         ensures pays { OnOk result (OnlyPays self.old self.new) }
     {
         match self.target_ahead(input)? {
@@ -116,7 +118,8 @@ impl Drawer {
     /// Draws a way to a coordinate.
     #[tactic(auto, unfolding(crate::specs::Operations::way_to))]
     fn go_to(&mut self, path: &mut CurrentPath, way: Way, written: Written) -> Result<(), Refusal>
-        ensures gives { (rest : Unread) → Gives (λ _. configuration_of self.new path.new rest) result
+        ensures gives { (rest : Unread) → Gives
+            (λ _. configuration_of self.new path.new rest) result
             (spec.way_to (given_to self.old) (way_of way) (A_coordinate (written_of written))
             (configuration_of self.old path.old rest)) }
         ensures pays { OnOk result (OnlyPays self.old self.new) }
@@ -131,8 +134,10 @@ impl Drawer {
     /// Draws a way back to where the subpath began, and closes it.
     #[tactic(auto, unfolding(crate::specs::Operations::way_to))]
     fn go_back(&mut self, path: &mut CurrentPath, way: Way) -> Result<(), Refusal>
-        ensures gives { (rest : Unread) → Gives (λ _. configuration_of self.new path.new rest) result
-            (spec.way_to (given_to self.old) (way_of way) The_start (configuration_of self.old path.old rest)) }
+        ensures gives { (rest : Unread) → Gives
+            (λ _. configuration_of self.new path.new rest) result
+            (spec.way_to (given_to self.old) (way_of way) The_start
+            (configuration_of self.old path.old rest)) }
         ensures pays { OnOk result (OnlyPays self.old self.new) }
     {
         let origin = self.origin();
@@ -149,8 +154,10 @@ impl Drawer {
     /// Draws a way from the current point to another.
     #[tactic(auto, unfolding(crate::specs::Operations::way_drawn))]
     fn draw_way(&mut self, path: &mut CurrentPath, way: Way, end: Point) -> Result<(), Refusal>
-        ensures gives { (rest : Unread) → Gives (λ _. configuration_of self.new path.new rest) result
-            (spec.way_drawn (given_to self.old) (way_of way) end (configuration_of self.old path.old rest)) }
+        ensures gives { (rest : Unread) → Gives
+            (λ _. configuration_of self.new path.new rest) result
+            (spec.way_drawn (given_to self.old) (way_of way) end
+            (configuration_of self.old path.old rest)) }
         ensures begins { OnOk result (BeginsWithMove path.new.segs) }
         ensures pays { OnOk result (OnlyPays self.old self.new) }
     {
@@ -173,8 +180,10 @@ impl Drawer {
         at: u32,
         end: Point,
     ) -> Result<(), Refusal>
-        ensures gives { (rest : Unread) → Gives (λ _. configuration_of self.now path.new rest) result
-            (spec.way_drawn (given_to self.now) (Cornered sign at) end (configuration_of self.now path.old rest)) }
+        ensures gives { (rest : Unread) → Gives
+            (λ _. configuration_of self.now path.new rest) result
+            (spec.way_drawn (given_to self.now) (Cornered sign at) end
+            (configuration_of self.now path.old rest)) }
         ensures begins { OnOk result (BeginsWithMove path.new.segs) }
     {
         let corner = corner_between(sign, self.state.graphics().matrix, self.here(path), end, at)?;
@@ -185,7 +194,8 @@ impl Drawer {
     /// Draws a piece that follows on the path.
     fn draw(&self, path: &mut CurrentPath, piece: Seg) -> Result<(), Refusal>
         ensures path { Gives (λ _. path.new) result
-            (Ok (with_pieces (piece ∷ []) (in_subpath (origin_of (env_of self.now.state)) path.old))) }
+            (Ok (with_pieces (piece ∷ [])
+            (in_subpath (origin_of (env_of self.now.state)) path.old))) }
         ensures begins { OnOk result (BeginsWithMove path.new.segs) }
     {
         path.begin(&self.origin())?;
@@ -247,7 +257,8 @@ impl Drawer {
         word: PathWord,
     ) -> Result<Way, Refusal>
         ensures gives { Gives (λ way. reached_at (way_of way) self.new path.now input.new) result
-            (spec.curve_behind (given_to self.old) first word (configuration_of self.old path.now input.old)) }
+            (spec.curve_behind (given_to self.old) first word
+            (configuration_of self.old path.now input.old)) }
         ensures pays { OnOk result (OnlyPays self.old self.new) }
     {
         match word {
@@ -278,8 +289,10 @@ impl Drawer {
 
     /// Reads `controls`, with the Spaces before it.
     fn expect_controls(&mut self, input: &mut Input) -> Result<(), Refusal>
-        ensures gives { (path : ACurrentPath) → Gives (λ _. configuration_of self.new path input.new) result
-            (past_word (given_to self.old) (codes "controls") (configuration_of self.old path input.old)) }
+        ensures gives { (path : ACurrentPath) → Gives
+            (λ _. configuration_of self.new path input.new) result
+            (past_word (given_to self.old) (codes "controls")
+            (configuration_of self.old path input.old)) }
         ensures pays { OnOk result (OnlyPays self.old self.new) }
     {
         self.expect_word(input, 'c', b"ontrols")
@@ -289,7 +302,8 @@ impl Drawer {
     #[tactic(auto, unfolding(crate::specs::Operations::first_control))]
     fn first_control(&mut self, input: &mut Input, path: &CurrentPath) -> Result<Point, Refusal>
         ensures gives { Gives (λ point. reached_at point self.new path.now input.new) result
-            (spec.first_control (given_to self.old) (configuration_of self.old path.now input.old)) }
+            (spec.first_control (given_to self.old)
+            (configuration_of self.old path.now input.old)) }
         ensures pays { OnOk result (OnlyPays self.old self.new) }
     {
         self.expect_controls(input)?;

@@ -39,7 +39,8 @@ impl Drawer {
     /// Reads a text in parentheses, whose `(` was taken at that place, and expands it.
     #[tactic(auto, unfolding(crate::specs::Operations::text_behind))]
     fn text_behind(&mut self, input: &mut Input, at: u32) -> Result<Vec<Tok>, Refusal>
-        ensures gives { (path : ACurrentPath) → Gives (λ text. reached_at text.items self.new path input.new) result
+        ensures gives { (path : ACurrentPath) → Gives
+            (λ text. reached_at text.items self.new path input.new) result
             (spec.text_behind (given_to self.old) at (configuration_of self.old path input.old)) }
         ensures pays { OnOk result (OnlyPays self.old self.new) }
     {
@@ -80,8 +81,10 @@ impl Drawer {
         first: Option<Tok>,
         steps: &mut Steps<L>,
     ) -> Result<Measures, Refusal>
-        ensures gives { (path : ACurrentPath) → Gives (λ measures. reached_at measures self.new path input.new) result
-            (spec.circle_measures (given_to self.old) (lookahead_of first self.old path input.old)) }
+        ensures gives { (path : ACurrentPath) → Gives
+            (λ measures. reached_at measures self.new path input.new) result
+            (spec.circle_measures (given_to self.old)
+            (lookahead_of first self.old path input.old)) }
         ensures kept { OnOk result (KeepsDrawn self.old self.new) }
         ensures high { steps.new ≤ most_steps steps.old self.old (with_taken first input.old) }
         ensures most { OnOk result (most_steps steps.new self.new (length input.new.rest)
@@ -150,8 +153,10 @@ impl Drawer {
         first: Option<Tok>,
         steps: &mut Steps<L>,
     ) -> Result<ArcMeasures, Refusal>
-        ensures gives { (path : ACurrentPath) → Gives (λ measures. reached_at measures self.new path input.new) result
-            (spec.arc_measures (given_to self.old) at (lookahead_of first self.old path input.old)) }
+        ensures gives { (path : ACurrentPath) → Gives
+            (λ measures. reached_at measures self.new path input.new) result
+            (spec.arc_measures (given_to self.old) at
+            (lookahead_of first self.old path input.old)) }
         ensures kept { OnOk result (KeepsDrawn self.old self.new) }
         ensures high { steps.new ≤ most_steps steps.old self.old (with_taken first input.old) }
         ensures most { OnOk result (most_steps steps.new self.new (length input.new.rest)
@@ -223,7 +228,8 @@ impl Drawer {
         measures: Measures,
     ) -> Result<(), Refusal>
         ensures gives { Gives (λ _. configuration_of self.new path.new input.new) result
-            (spec.grid_by (given_to self.old) at measures (configuration_of self.old path.old input.old)) }
+            (spec.grid_by (given_to self.old) at measures
+            (configuration_of self.old path.old input.old)) }
         ensures pays { OnOk result (OnlyPays self.old self.new) }
     {
         let to = self.goal_ahead(input, path)?;
@@ -239,8 +245,10 @@ impl Drawer {
         measures: &Measures,
         to: &Goal,
     ) -> Result<(), Refusal>
-        ensures gives { (rest : Unread) → Gives (λ _. configuration_of self.new path.new rest) result
-            (spec.grid_to self.old.state.budget at measures.now to.now (configuration_of self.old path.old rest)) }
+        ensures gives { (rest : Unread) → Gives
+            (λ _. configuration_of self.new path.new rest) result
+            (spec.grid_to self.old.state.budget at measures.now to.now
+            (configuration_of self.old path.old rest)) }
         ensures pays { OnOk result (OnlyPays self.old self.new) }
     {
         let mesh = measures.mesh(at)?;

@@ -65,7 +65,8 @@ impl Drawer {
         requires sound { IsSound self.old }
         ensures gives { (ev : Evaluation) → IsEvaluation ev
             → Gives (λ _. configuration_of self.new no_path input.new) result
-            (paths.path (given_of ev self.old.state) (configuration_of self.old no_path input.old)) }
+            (paths.path (given_of ev self.old.state)
+            (configuration_of self.old no_path input.old)) }
         ensures sound { OnOk result (IsSound self.new) }
         ensures kept { OnOk result (Keeps self.old.state self.new.state) }
         ensures high { steps.new ≤ most_steps steps.old self.old (length input.old.rest) }
@@ -102,7 +103,8 @@ impl Drawer {
         steps: &mut Steps<L>,
     ) -> Result<(), Refusal>
         ensures gives { Gives (λ _. configuration_of self.new path.new input.new) result
-            (paths.operations (given_to self.old) (stretch opener (configuration_of self.old path.old input.old))) }
+            (paths.operations (given_to self.old)
+            (stretch opener (configuration_of self.old path.old input.old))) }
         ensures kept { OnOk result (KeepsDrawn self.old self.new) }
         ensures high { steps.new ≤ most_steps steps.old self.old (length input.old.rest) }
         ensures most { OnOk result (most_steps steps.new self.new (length input.new.rest)
@@ -182,7 +184,8 @@ impl Drawer {
         steps: &mut Steps<L>,
     ) -> Result<(), Refusal>
         ensures gives { Gives (λ _. configuration_of self.new path.new input.new) result
-            (paths.plain_part (given_to self.old) (lookahead_of first self.old path.old input.old)) }
+            (paths.plain_part (given_to self.old)
+            (lookahead_of first self.old path.old input.old)) }
         ensures kept { OnOk result (KeepsDrawn self.old self.new) }
         ensures high { steps.new ≤ most_steps steps.old self.old (with_taken first input.old) }
         ensures most { OnOk result (most_steps steps.new self.new (length input.new.rest)
@@ -226,7 +229,8 @@ impl Drawer {
         steps: &mut Steps<L>,
     ) -> Result<(), Refusal>
         ensures gives { Gives (λ _. configuration_of self.new path.new input.new) result
-            (paths.operation_from (given_to self.old) (lookahead_of first self.old path.old input.old)) }
+            (paths.operation_from (given_to self.old)
+            (lookahead_of first self.old path.old input.old)) }
         ensures kept { OnOk result (KeepsDrawn self.old self.new) }
         ensures high { steps.new ≤ most_steps steps.old self.old (with_taken first input.old) }
         ensures most { OnOk result (most_steps steps.new self.new (length input.new.rest)

@@ -64,7 +64,8 @@ impl Drawer {
     #[tactic(auto, unfolding(crate::specs::Targets::goal_of))]
     pub(crate) fn goal_of(&mut self, path: &CurrentPath, written: Written) -> Result<Goal, Refusal>
         ensures gives { (rest : Unread) → Gives (λ to. reached_at to self.new path.now rest) result
-            (spec.goal_of (given_to self.old) (written_of written) (configuration_of self.old path.now rest)) }
+            (spec.goal_of (given_to self.old) (written_of written)
+            (configuration_of self.old path.now rest)) }
         ensures pays { OnOk result (OnlyPays self.old self.new) }
     {
         let leads = written.sign.leads();
@@ -82,7 +83,8 @@ impl Drawer {
     ) -> Result<Written, Refusal>
         ensures gives { (path : ACurrentPath)
             → Gives (λ written. reached_at (written_of written) self.new path input.new) result
-            (spec.coordinate_or_node (given_to self.old) (lookahead_of first self.old path input.old)) }
+            (spec.coordinate_or_node (given_to self.old)
+            (lookahead_of first self.old path input.old)) }
         ensures pays { OnOk result (OnlyPays self.old self.new) }
     {
         if begins_coordinate(first) {

@@ -171,9 +171,11 @@ impl Words {
 
     /// The one that begins with that letter and the letter that a token is; the fault stands at that place.
     fn row_behind(self, first: char, second: Option<Tok>, at: u32) -> Result<Row, Refusal>
-        ensures { Gives (λ row. (row.0.now, row.1)) result (or_fault (spec.letter_there second) PathSyntax at
+        ensures { Gives
+            (λ row. (row.0.now, row.1)) result (or_fault (spec.letter_there second) PathSyntax at
             followed_by (λ letter. or_fault
-            (slice_get (spec.going_on letter (spec.going_on first (spec.word_table self))) 0) PathSyntax at)) }
+            (slice_get (spec.going_on letter
+            (spec.going_on first (spec.word_table self))) 0) PathSyntax at)) }
     {
         match letter(second) {
             Some(second) => self.row(first, second).ok_or(misfit(at)),
@@ -199,8 +201,10 @@ impl Drawer {
     /// Reads a letter of a word, which begins at that place.
     #[tactic(auto, unfolding(crate::specs::Words::behind_letter))]
     fn expect_letter(&mut self, input: &mut Input, at: u32, letter: char) -> Result<(), Refusal>
-        ensures gives { (path : ACurrentPath) → Gives (λ _. configuration_of self.new path input.new) result
-            (spec.behind_letter (given_to self.old) at letter (configuration_of self.old path input.old)) }
+        ensures gives { (path : ACurrentPath) → Gives
+            (λ _. configuration_of self.new path input.new) result
+            (spec.behind_letter (given_to self.old) at letter
+            (configuration_of self.old path input.old)) }
         ensures pays { OnOk result (OnlyPays self.old self.new) }
     {
         let next = self.token(input)?;
@@ -213,8 +217,10 @@ impl Drawer {
     /// Reads letters of a word, which begins at that place.
     #[tactic(auto, unfolding(crate::specs::Words::behind_letters))]
     fn expect_letters(&mut self, input: &mut Input, at: u32, letters: &[u8]) -> Result<(), Refusal>
-        ensures gives { (path : ACurrentPath) → Gives (λ _. configuration_of self.new path input.new) result
-            (spec.behind_letters (given_to self.old) at letters.now (configuration_of self.old path input.old)) }
+        ensures gives { (path : ACurrentPath) → Gives
+            (λ _. configuration_of self.new path input.new) result
+            (spec.behind_letters (given_to self.old) at letters.now
+            (configuration_of self.old path input.old)) }
         ensures pays { OnOk result (OnlyPays self.old self.new) }
     {
         match letters.split_first() {
@@ -234,8 +240,10 @@ impl Drawer {
         words: Words,
         first: Option<Tok>,
     ) -> Result<PathWord, Refusal>
-        ensures gives { (path : ACurrentPath) → Gives (λ word. reached_at word self.new path input.new) result
-            (spec.word_from (given_to self.old) words (lookahead_of first self.old path input.old)) }
+        ensures gives { (path : ACurrentPath) → Gives
+            (λ word. reached_at word self.new path input.new) result
+            (spec.word_from (given_to self.old) words
+            (lookahead_of first self.old path input.old)) }
         ensures pays { OnOk result (OnlyPays self.old self.new) }
     {
         let at = input.place(first);
@@ -254,7 +262,8 @@ impl Drawer {
         at: u32,
         first: char,
     ) -> Result<PathWord, Refusal>
-        ensures gives { (path : ACurrentPath) → Gives (λ word. reached_at word self.new path input.new) result
+        ensures gives { (path : ACurrentPath) → Gives
+            (λ word. reached_at word self.new path input.new) result
             (spec.rest_of_word (given_to self.old) at (spec.going_on first (spec.word_table words))
             (configuration_of self.old path input.old)) }
         ensures pays { OnOk result (OnlyPays self.old self.new) }
@@ -275,7 +284,8 @@ impl Drawer {
         input: &mut Input,
         words: Words,
     ) -> Result<PathWord, Refusal>
-        ensures gives { (path : ACurrentPath) → Gives (λ word. reached_at word self.new path input.new) result
+        ensures gives { (path : ACurrentPath) → Gives
+            (λ word. reached_at word self.new path input.new) result
             (spec.word_ahead (given_to self.old) words (configuration_of self.old path input.old)) }
         ensures pays { OnOk result (OnlyPays self.old self.new) }
     {
@@ -291,8 +301,10 @@ impl Drawer {
         first: char,
         letters: &[u8],
     ) -> Result<(), Refusal>
-        ensures gives { (path : ACurrentPath) → Gives (λ _. configuration_of self.new path input.new) result
-            (spec.past_word (given_to self.old) (first ∷ letters.now) (configuration_of self.old path input.old)) }
+        ensures gives { (path : ACurrentPath) → Gives
+            (λ _. configuration_of self.new path input.new) result
+            (spec.past_word (given_to self.old) (first ∷ letters.now)
+            (configuration_of self.old path input.old)) }
         ensures pays { OnOk result (OnlyPays self.old self.new) }
     {
         let token = self.ahead(input)?;

@@ -69,7 +69,8 @@ pub(crate) fn commands<L: Ledger>(
 ) -> Result<(), Refusal>
     requires sound { IsSound drawer.old }
     ensures gives { Gives (λ _. progress_of drawer.new input.new) result
-        (commands (given_to drawer.old) (block (opener_of opener) (place_of_run drawer.old input.old))) }
+        (commands (given_to drawer.old)
+        (block (opener_of opener) (place_of_run drawer.old input.old))) }
     ensures sound { OnOk result (IsSound drawer.new) }
     ensures kept { OnOk result (Keeps drawer.old.state drawer.new.state) }
     ensures high { steps.new ≤ most_steps steps.old drawer.old (length input.old.rest) }
@@ -130,7 +131,8 @@ fn command<L: Ledger>(
     requires sound { IsSound drawer.old }
     requires few { BeginsFew beginning }
     ensures gives { Gives (flow_of drawer.new input.new) result
-        (command (given_to drawer.old) (commands (given_to drawer.old)) (begun_of beginning) first (opener_of opener)
+        (command (given_to drawer.old) (commands (given_to drawer.old)) (begun_of beginning) first
+        (opener_of opener)
         (place_of_run drawer.old input.old)) }
     ensures sound { OnOk result (IsSound drawer.new) }
     ensures kept { OnOk result (Keeps drawer.old.state drawer.new.state) }
@@ -165,7 +167,8 @@ fn scope<L: Ledger>(
 ) -> Result<Flow, Refusal>
     requires sound { IsSound drawer.old }
     ensures gives { (opener : AnOpener) → Gives (flow_of drawer.new input.new) result
-        (command (given_to drawer.old) (commands (given_to drawer.old)) Begins_environment first opener
+        (command (given_to drawer.old)
+        (commands (given_to drawer.old)) Begins_environment first opener
         (place_of_run drawer.old input.old)) }
     ensures sound { OnOk result (IsSound drawer.new) }
     ensures kept { OnOk result (Keeps drawer.old.state drawer.new.state) }
@@ -197,7 +200,8 @@ pub(crate) fn styled_commands<L: Ledger>(
 ) -> Result<(), Refusal>
     requires sound { IsSound drawer.old }
     ensures gives { Gives (λ _. progress_of drawer.new input.new) result
-        (styled_commands (given_to drawer.old) (commands (given_to drawer.old)) (style_name style) (opener_of opener)
+        (styled_commands (given_to drawer.old) (commands (given_to drawer.old)) (style_name style)
+        (opener_of opener)
         (place_of_run drawer.old input.old)) }
     ensures sound { OnOk result (IsSound drawer.new) }
     ensures kept { OnOk result (Keeps drawer.old.state drawer.new.state) }
@@ -219,7 +223,8 @@ fn run_styled<L: Ledger>(
     steps: &mut Steps<L>,
 ) -> Result<(), Refusal>
     ensures gives { Gives (λ _. place_of_run drawer.new input.new) result
-        (with_style_and_options (given_to drawer.old) at (style_name style) (place_of_run drawer.old input.old)) }
+        (with_style_and_options (given_to drawer.old) at (style_name style)
+        (place_of_run drawer.old input.old)) }
     ensures kept { OnOk result (KeepsDrawn drawer.old drawer.new) }
     ensures high { steps.new ≤ most_steps steps.old drawer.old (length input.old.rest + 1) }
     ensures most { OnOk result (most_steps steps.new drawer.new (length input.new.rest)
@@ -263,7 +268,8 @@ fn draw_path<L: Ledger>(
     requires sound { IsSound drawer.old }
     requires few { RunsFew keys.now }
     ensures gives { (opener : AnOpener) → Gives (flow_of drawer.new input.new) result
-        (command (given_to drawer.old) (commands (given_to drawer.old)) (Begins_path keys.now) first opener
+        (command (given_to drawer.old) (commands (given_to drawer.old))
+        (Begins_path keys.now) first opener
         (place_of_run drawer.old input.old)) }
     ensures sound { OnOk result (IsSound drawer.new) }
     ensures kept { OnOk result (Keeps drawer.old.state drawer.new.state) }
@@ -324,7 +330,8 @@ fn begin_path<L: Ledger>(
 
 /// Has nothing drawn or filled.
 fn unpaint(drawer: &mut Drawer)
-    ensures gives { (rest : Unread) → place_of_run drawer.new rest ≡ plain (place_of_run drawer.old rest) }
+    ensures gives { (rest : Unread) → place_of_run drawer.new rest
+        ≡ plain (place_of_run drawer.old rest) }
     ensures kept { KeepsDrawn drawer.old drawer.new }
     ensures made { drawer.new.state.levels.top.settings ≡ drawer.old.state.levels.top.settings }
     ensures paid { drawer.new.state.units ≡ drawer.old.state.units }
@@ -393,7 +400,8 @@ fn begun_by(word: &str) -> Beginning
 
 /// Asks that a name in braces is next; else that fault stands at a place.
 fn expect_named(input: &mut Input, code: Code, at: u32, name: &[u8]) -> Result<(), Fault>
-    ensures gives { Tells (λ _. input.new) result (named_or code at (after_name code name.now input.old)) }
+    ensures gives { Tells
+        (λ _. input.new) result (named_or code at (after_name code name.now input.old)) }
     ensures shorter { OnOk result (length input.new.rest < length input.old.rest) }
 {
     match input.expect_name(code, name) {

@@ -14,7 +14,8 @@ ghost use Rattle.tk_picture.specs.Outcome.{IsOutcome, IsPlace};
 
 /// Each source stands for a drawing or has a fault, whatever is asked of it.
 pub fn each_source_has_an_outcome()
-    ensures { (asked : AnAsked) (source : List ℕ) → (outcome : Answer ACompiled) × IsOutcome asked source outcome }
+    ensures { (asked : AnAsked) (source : List ℕ) → (outcome : Answer ACompiled)
+        × IsOutcome asked source outcome }
 {}
 
 /// No source stands for two drawings, has two faults, or both, where the same is asked of it.
@@ -42,7 +43,8 @@ pub fn a_drawing_fits_a_document()
 
 /// Commands are what one step of their definition says.
 pub fn commands_are_their_step()
-    ensures { (given : Given) (b : Block) → commands given b ≡ commands_step given (commands given) b }
+    ensures { (given : Given) (b : Block) → commands given b
+        ≡ commands_step given (commands given) b }
 {}
 
 /// They are the same whatever the answer is where no work is left: no bound on how deep the steps go is met.

@@ -109,7 +109,8 @@ fn document<L: Ledger>(
     steps: &mut Steps<L>,
 ) -> Result<(), Refusal>
     requires { IsNew drawer.old }
-    ensures gives { Gives (λ _. compiled (picture_of drawer.new no_path) drawer.new.state.units) result
+    ensures gives { Gives
+        (λ _. compiled (picture_of drawer.new no_path) drawer.new.state.units) result
         (document (given_to drawer.old) input.old) }
     ensures sound { OnOk result (IsSound drawer.new) }
     ensures work { steps.new ≤ most_steps steps.old drawer.old (length input.old.rest) }
@@ -131,7 +132,8 @@ fn picture<L: Ledger>(
     steps: &mut Steps<L>,
 ) -> Result<(), Refusal>
     requires { IsNew drawer.old }
-    ensures gives { Gives (λ _. compiled (picture_of drawer.new no_path) drawer.new.state.units) result
+    ensures gives { Gives
+        (λ _. compiled (picture_of drawer.new no_path) drawer.new.state.units) result
         (picture_behind (given_to drawer.old) at input.old) }
     ensures sound { OnOk result (IsSound drawer.new) }
     ensures work { steps.new ≤ most_steps steps.old drawer.old (length input.old.rest) }
@@ -163,7 +165,8 @@ fn is_word(drawer: &Drawer, kind: Kind, wanted: &str) -> bool
 
 /// Asks that nothing is left but Spaces.
 fn expect_nothing(input: &mut Input) -> Result<(), Fault>
-    ensures { (c : ACompiled) → Tells (λ _. c) result (nothing_after c (after_spaces input.old.rest)) }
+    ensures { (c : ACompiled) → Tells
+        (λ _. c) result (nothing_after c (after_spaces input.old.rest)) }
 {
     input.skip_spaces();
     match input.raw() {
