@@ -20,9 +20,9 @@ use Rattle.tk_keys.proofs.Standing.{ok_at}
 use Rattle.tk_path.specs.declared.drawer.Drawer.{Drawer}
 use Rattle.tk_path.specs.declared.words.PathWord.{PathWord}
 use Rattle.tk_path.specs.declared.words.Words.{Words}
-use Rattle.tk_path.specs.declared.measures.Measures.{Measures}
+use Rattle.tk_outline.specs.declared.measures.Measures.{Measures}
 use Rattle.tk_path.specs.Configurations.{Configuration, Reached, lookahead, work_at}
-use Rattle.tk_path.specs.CurrentPaths.{CurrentPath}
+use Rattle.tk_outline.specs.CurrentPaths.{CurrentPath}
 use Rattle.tk_path.specs.Keys.{put_back}
 use Rattle.tk_path.specs.Operations.{Straight, Cornered, goes, curve, rectangle, grid_by, text_behind}
 use Rattle.tk_path.specs.Paths.{movement}

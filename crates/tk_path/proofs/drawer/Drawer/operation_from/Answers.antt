@@ -1,7 +1,7 @@
 use Rattle.std.proofs.Common.{ap, arith}
 use Rattle.std.proofs.lemmas.Result.{on_ok_weaker}
 use Rattle.tk_path.specs.declared.drawer.Drawer.{Drawer}
-use Rattle.tk_path.specs.CurrentPaths.{no_path}
+use Rattle.tk_outline.specs.CurrentPaths.{no_path}
 use Rattle.tk_path.specs.Views.{given_to}
 use Rattle.tk_path.proofs.Kept.{settings_paid}
 use Rattle.tk_path.proofs.WorkLeft.{word_left}
