@@ -56,4 +56,4 @@ pub few_tokens : (source : List ℕ) (names : List (List ℕ)) (toks : List Tok)
 few_tokens source names toks l =
     let h = few_cut source (Ok (map (token_of names) toks)) l in
     let k = chars_within source (before_tokens source (Ok (map (token_of names) toks)) l).0 in
-    omega (arith, h, k, length-map (token_of names) toks)
+    omega (arith, h, k, length-map toks (token_of names))

@@ -412,7 +412,8 @@ fn expect_named(input: &mut Input, code: Code, at: u32, name: &[u8]) -> Result<(
 
 /// Reads what stands behind an `\end` at a place, which has to end what commands stand in.
 fn expect_end(input: &mut Input, opener: BlockOpener, at: u32) -> Result<(), Fault>
-    ensures { Tells (λ _. input.new) result (end_behind at (opener_of opener) input.old) }
+    ensures gives { Tells (λ _. input.new) result (end_behind at (opener_of opener) input.old) }
+    ensures shorter { OnOk result (length input.new.rest < length input.old.rest) }
 {
     match opener {
         BlockOpener::Picture(_) => expect_named(input, Code::EndMismatch, at, b"tikzpicture"),

@@ -28,6 +28,9 @@ command-returns-in-BeginEnvironment-clause-gives g t c = rw c.in-BeginEnvironmen
 pub command-returns-in-Other-clause-gives : goal.command-returns-in-Other-clause-gives
 command-returns-in-Other-clause-gives g t c = rw c.in-Other.is (c.set.ensures.gives (opener_of c.args.opener))
 
+pub command-returns-in_ok-expect_end-in-EndEnvironment-clause-most : goal.command-returns-in_ok-expect_end-in-EndEnvironment-clause-most
+command-returns-in_ok-expect_end-in-EndEnvironment-clause-most g t c = omega (arith, c.in_ok-expect_end.ensures.shorter)
+
 pub commands-returns-in_err-first-clause-gives : goal.commands-returns-in_err-first-clause-gives
 commands-returns-in_err-first-clause-gives g t c =
     let e = front_fails (given_to c.args.drawer.now) (given_to c.loop-first.drawer) (same_given evaluated c.args.drawer.now.state
@@ -47,9 +50,9 @@ commands-command_at-requires g t c =
     λ κs b. (
       omega (arith, w, kept, paid, c.loop-first.invariant.work),
       (
+        b,
         sound_paid c.loop-first.drawer c.ahead.new.self c.in_ok-first.ensures.pays
             c.loop-first.invariant.sound,
-        b,
       ),
     )
 
@@ -122,7 +125,7 @@ styled_commands-commands-requires g t c =
     let w = styled_work (given_to c.args.drawer.now) c.place.result (style_name c.args.style) (place_of_run c.args.drawer.now c.args.input.now)
     (place_of_run c.run_styled.new.drawer c.run_styled.new.input) c.in_ok-run_styled.ensures.gives in
     let budget = kept.state.budget in
-    λ κs b. (omega (arith, w, budget), (sound_kept c.args.drawer.now c.run_styled.new.drawer kept (search rules), b))
+    λ κs b. (omega (arith, w, budget), (b, sound_kept c.args.drawer.now c.run_styled.new.drawer kept (search rules)))
 
 pub scope-styled_commands-requires : goal.scope-styled_commands-requires
 scope-styled_commands-requires g t c =
@@ -131,7 +134,7 @@ scope-styled_commands-requires g t c =
     let units = ap (λ (s : State). s.units) c.in_ok-open.ensures.opened in
     λ κs b. (
       omega (arith, short, budget, units),
-      (record { items = c.requires.sound.items; proper = c.requires.sound.proper }, b),
+      (b, record { items = c.requires.sound.items; proper = c.requires.sound.proper }),
     )
 
 pub scope-returns-in_err-styled_commands-clause-gives : goal.scope-returns-in_err-styled_commands-clause-gives
