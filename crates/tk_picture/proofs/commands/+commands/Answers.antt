@@ -29,7 +29,7 @@ pub command-returns-in-Other-clause-gives : goal.command-returns-in-Other-clause
 command-returns-in-Other-clause-gives g t c = rw c.in-Other.is (c.set.ensures.gives (opener_of c.args.opener))
 
 pub command-returns-in_ok-expect_end-in-EndEnvironment-clause-most : goal.command-returns-in_ok-expect_end-in-EndEnvironment-clause-most
-command-returns-in_ok-expect_end-in-EndEnvironment-clause-most g t c = omega (arith, c.in_ok-expect_end.ensures.shorter)
+command-returns-in_ok-expect_end-in-EndEnvironment-clause-most g t c = omega (arith, c.in_ok-expect_end-in-EndEnvironment.ensures.shorter)
 
 pub commands-returns-in_err-first-clause-gives : goal.commands-returns-in_err-first-clause-gives
 commands-returns-in_err-first-clause-gives g t c =
